@@ -1,0 +1,5 @@
+pub mod Ids
+pub mod Faults
+pub mod Pairs
+pub mod Clocks
+pub mod Rules

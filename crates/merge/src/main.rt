@@ -1,0 +1,25 @@
+//! The program `merge`: logs from standard input, and the merged table, or one line of fault, to standard output.
+use edits::Fault;
+use merger::LONGEST_INPUT;
+use merger::merged;
+use std::error::AnyError;
+use std::io;
+use std::io::Read;
+
+fn main(rt: LibcRuntime) -> Result<(), AnyError> {
+    let heap = rt.alloc();
+    let mut input = Vec::new(heap);
+    // One byte more than is allowed shows that the input is too long.
+    let mut bounded = rt.stdin().take(LONGEST_INPUT as u64 + 1);
+    bounded.read_to_end(&mut input)?;
+    match merged(heap, &input) {
+        Ok(table) => {
+            rt.print(table)?;
+            Ok(())
+        }
+        Err(fault) => {
+            rt.print(fault.line(heap)?)?;
+            Err("the input was refused".into())
+        }
+    }
+}
