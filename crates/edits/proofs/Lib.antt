@@ -1,2 +1,5 @@
+pub mod Conjunctions
 pub mod Counting
 pub mod Capped
+pub mod Walking
+pub mod Placed

@@ -3,3 +3,4 @@ pub mod Faults
 pub mod Pairs
 pub mod Clocks
 pub mod Rules
+pub mod Edits

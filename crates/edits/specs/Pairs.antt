@@ -20,6 +20,11 @@ abbrev pub count-of : List Pair → ℕ → ℕ
 count-of [] editor = 0
 count-of (p ∷ ps) editor = cond (eqb (p .editor) editor) (p .count) (count-of ps editor)
 
+-- how many pairs come before an editor
+abbrev pub place-of : ℕ → List Pair → ℕ
+place-of editor [] = 0
+place-of editor (p ∷ ps) = cond (ltb (p .editor) editor) (suc (place-of editor ps)) 0
+
 -- the pairs with a count for an editor
 abbrev pub counting : ℕ → ℕ → List Pair → List Pair
 counting editor count [] = record { editor = editor; count = count } ∷ []

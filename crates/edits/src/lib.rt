@@ -7,6 +7,7 @@ mod faults;
 mod id;
 mod ids;
 mod making;
+mod pairs;
 
 pub use clock::Clock;
 pub use clock::Pair;
@@ -22,3 +23,10 @@ pub use fault::Spot;
 pub use faults::FaultFromAlloc;
 pub use faults::FaultFromRefused;
 pub use id::Id;
+pub use id::IdDebug;
+pub use id::IdOrd;
+pub use id::IdPartialEq;
+pub use making::own_kept;
+pub use making::parent_kept;
+pub use pairs::count_among;
+pub use pairs::place_among;

@@ -1,10 +1,9 @@
 //! The program `merge`: logs from standard input, and the merged table, or one line of fault, to standard output.
-use edits::Fault;
 use merger::LONGEST_INPUT;
 use merger::merged;
 use std::error::AnyError;
-use std::io;
 use std::io::Read;
+use std::io::Write;
 
 fn main(rt: LibcRuntime) -> Result<(), AnyError> {
     let heap = rt.alloc();
@@ -14,7 +13,7 @@ fn main(rt: LibcRuntime) -> Result<(), AnyError> {
     bounded.read_to_end(&mut input)?;
     match merged(heap, &input) {
         Ok(table) => {
-            rt.print(table)?;
+            rt.stdout().write_all(&table)?;
             Ok(())
         }
         Err(fault) => {

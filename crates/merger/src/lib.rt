@@ -1,5 +1,15 @@
 //! Logs merged into one table.
-mod table;
+mod gathering;
+mod merge;
+mod settling;
+mod showing;
+mod tables;
 
-pub use table::LONGEST_INPUT;
-pub use table::merged;
+pub use gathering::LONGEST_INPUT;
+pub use merge::Gathering;
+pub use merge::GatheringState;
+pub use merge::Merge;
+pub use merge::Settled;
+pub use merge::SettledState;
+pub use merge::State;
+pub use tables::merged;

@@ -1,0 +1,18 @@
+-- The digits that a byte is printed as.
+use mathlib.Core.Bool.{Bool, cond}
+use mathlib.Core.List.{List, [], _∷_, _++_}
+use Prim.Native.Nat.{ℕ, _+_, _/_, _%_}
+use lib.Dec.{ltb}
+
+-- the upper-case digit of a number below 16: 0 to 9 from code 48 on, A to F from code 65 on
+abbrev pub hex-digit : ℕ → ℕ
+hex-digit n = cond (ltb n 10) (48 + n) (55 + n)
+
+-- the two digits of a byte, the higher first
+abbrev pub hex-pair : ℕ → List ℕ
+hex-pair byte = hex-digit (byte / 16) ∷ hex-digit (byte % 16) ∷ []
+
+-- the digits of all bytes of a list in turn
+abbrev pub hex-text : List ℕ → List ℕ
+hex-text [] = []
+hex-text (byte ∷ bytes) = hex-pair byte ++ hex-text bytes

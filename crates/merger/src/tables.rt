@@ -1,0 +1,42 @@
+//! From an input to the table that is printed of it.
+use crate::merge::Gathering;
+use crate::merge::GatheringState;
+use crate::merge::Merge;
+use crate::merge::SettledState;
+use edits::Fault;
+use elements::Cell;
+use elements::CellKind;
+use elements::CharKind;
+use elements::Kind;
+use formats::head_at;
+use std::alloc::Global;
+
+/// How many entries the table of an input can have, tombstones counted.
+pub const SLOTS: usize = 1_024;
+
+/// How many edits can wait at a time.
+pub const ROOM: usize = 64;
+
+/// The table of an input, as text. The first log says of which kind the elements are.
+pub fn merged(heap: Global, input: &[u8]) -> Result<Vec<u8>, Fault> {
+    if holds_cells(input) {
+        table_of::<Cell>(heap, input)
+    } else {
+        table_of::<char>(heap, input)
+    }
+}
+
+/// Whether the input begins with a log of cells.
+fn holds_cells(input: &[u8]) -> bool {
+    head_at(input, 0).is_some() && input.len() > 2 && input[2] == CellKind::kind_byte()
+}
+
+/// The table of an input with elements of the kind.
+fn table_of<K: Kind>(heap: Global, input: &[u8]) -> Result<Vec<u8>, Fault> {
+    let mut merge = Merge::<K, Gathering>::new(heap, SLOTS, ROOM)?;
+    merge.gather(input)?;
+    match merge.settle() {
+        Ok(settled) => settled.show(heap),
+        Err((_, fault)) => Err(fault),
+    }
+}

@@ -1,0 +1,10 @@
+//! A replica: one copy of the document, with what it has applied and what waits.
+mod replica;
+mod roster;
+mod rosters;
+mod shelf;
+mod shelving;
+mod taking;
+
+pub use replica::Replica;
+pub use replica::Taken;

@@ -1,0 +1,22 @@
+//! The memory of a replica.
+use crate::roster::Roster;
+use crate::shelf::Shelf;
+use tree::Tree;
+
+/// A copy of the document: its entries, the edits that wait, and the editors that it has accepted edits of.
+#[derive(Drop)]
+pub struct Replica<E: Copy> {
+    pub(crate) slots: usize,
+    pub(crate) tree: Tree<E>,
+    pub(crate) shelf: Shelf<E>,
+    pub(crate) roster: Roster,
+}
+
+/// The answer to an edit that is taken in.
+#[derive(Clone, Copy, PartialEq, Eq, Debug)]
+pub enum Taken {
+    /// It was applied before, or waits already.
+    Known,
+    /// How many edits this call applied: none if the edit waits now, and with it those that waited for it.
+    Applied(usize),
+}

@@ -1,0 +1,11 @@
+//! The document in memory: a Fugue tree as linked nodes in one `Vec`, listed in reading order.
+mod growing;
+mod index;
+mod node;
+mod reading;
+mod tree;
+mod walk;
+
+pub use node::Entry;
+pub use reading::Reading;
+pub use tree::Tree;
