@@ -1,4 +1,4 @@
--- The digits that a byte is printed as.
+-- The digits that bytes are printed as.
 use mathlib.Core.Bool.{Bool, cond}
 use mathlib.Core.List.{List, [], _∷_, _++_}
 use Prim.Native.Nat.{ℕ, _+_, _/_, _%_}
@@ -12,7 +12,11 @@ hex-digit n = cond (ltb n 10) (48 + n) (55 + n)
 abbrev pub hex-pair : ℕ → List ℕ
 hex-pair byte = hex-digit (byte / 16) ∷ hex-digit (byte % 16) ∷ []
 
--- the digits of all bytes of a list in turn
+-- what is written of each element of a list, in turn
+abbrev pub spelled : {X : Type 0} → (X → List ℕ) → List X → List ℕ
+spelled text [] = []
+spelled text (x ∷ xs) = text x ++ spelled text xs
+
+-- the digits of bytes in turn
 abbrev pub hex-text : List ℕ → List ℕ
-hex-text [] = []
-hex-text (byte ∷ bytes) = hex-pair byte ++ hex-text bytes
+hex-text bytes = spelled hex-pair bytes

@@ -1,7 +1,7 @@
 //! Clocks as data.
 
 /// How many edits of an editor are counted.
-#[derive(Clone, Copy, PartialEq, Eq, Debug)]
+#[derive(Clone, Copy)]
 pub struct Pair {
     pub editor: u8,
     pub count: u16,
@@ -9,7 +9,7 @@ pub struct Pair {
 
 /// A clock: the first `len` pairs. It lists at most 16 editors, ascending, with counts of at least 1; an editor that is
 /// not listed counts 0. The rules are held by the types of edits that carry a clock.
-#[derive(Clone, Copy, PartialEq, Eq, Debug)]
+#[derive(Clone, Copy)]
 pub struct Clock {
     pub len: u8,
     pub pairs: [Pair; 16],

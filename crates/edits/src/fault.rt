@@ -1,11 +1,10 @@
 //! Why a call was refused.
 use crate::id::Id;
 use crate::id::IdDebug;
-use crate::id::IdPartialEq;
 
 /// One case for each refusal, in the order of their numbers. `usize` values are offsets in the record or the input
 /// unless said otherwise; identifiers are those of the edit that was refused.
-#[derive(Clone, Copy, PartialEq, Eq, Debug)]
+#[derive(Clone, Copy, Debug)]
 pub enum Fault {
     /// The machine has no memory left.
     NoMemory,
@@ -49,7 +48,7 @@ pub enum Fault {
 }
 
 /// The layer that refused.
-#[derive(Clone, Copy, PartialEq, Eq, Debug)]
+#[derive(Clone, Copy)]
 pub enum Layer {
     Format,
     Replica,
@@ -59,7 +58,7 @@ pub enum Layer {
 }
 
 /// What a fault points at: a number (an offset, a count of edits, or 0 where there is nothing to point at) or an edit.
-#[derive(Clone, Copy, PartialEq, Eq, Debug)]
+#[derive(Clone, Copy)]
 pub enum Spot {
     Number(usize),
     Edit(Id),

@@ -9,7 +9,6 @@ use borrow.Author.Tests.{eqb-true}
 use lib.Dec.{eqb}
 use lib.ListN.{length, getD}
 use lib.Utf8.{scalar}
-use Rattle.std.specs.declared.option.Option.{Option}
 use Rattle.std.specs.declared.option.Option.the-variants.{Some, None}
 use Rattle.elements.specs.Bytes.{Bytes}
 use Rattle.elements.specs.Fours.{four, four-at, character-of}

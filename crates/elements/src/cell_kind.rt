@@ -1,7 +1,4 @@
 //! Cells in thirteen bytes: the character, the style, and the bits of the two floats, the highest byte first.
-ghost use mathlib.Core.Bool.{_&&_};
-ghost use lib.Ieee.{binary32, fits};
-ghost use lib.Utf8.{scalar};
 ghost use Rattle.elements.specs.Cells.{cell-bytes, cell-of, cell-proper};
 use crate::cell::Cell;
 use crate::floats::bits;

@@ -1,11 +1,13 @@
 -- The edits that a record stands for.
-use mathlib.Core.Bool.{cond}
+use mathlib.Core.Path.{_≡_}
+use mathlib.Core.Bool.{true, cond}
 use mathlib.Core.List.{List}
-use Prim.Native.Nat.{ℕ, _+_, _-_, _*_}
+use Prim.Native.Nat.{ℕ, _+_, _-_, _*_, _<_}
 use lib.Dec.{ltb, eqb}
 use lib.ListN.{take, drop}
 use Rattle.std.specs.declared.option.Option.{Option}
 use Rattle.std.specs.declared.option.Option.the-variants.{Some, None}
+use Rattle.std.specs.Options.{isSome}
 use Rattle.edits.specs.declared.id.Id.{Id}
 use Rattle.edits.specs.declared.clock.Pair.{Pair}
 use Rattle.edits.specs.declared.edit.Side.{Side}
@@ -58,3 +60,7 @@ module _ {K : Type 0} (width : ℕ) (unpacked : List ℕ → Option K) where
   -- the edit at the place i, counted from 0; none behind the last
   abbrev pub edit-at : Raw → ℕ → Option (Plain K)
   edit-at r i = cond (ltb i (length-of r)) (edit-within r i) None
+
+  -- every edit that the record stands for is there
+  abbrev pub Whole : Raw → Type 0
+  Whole r = (i : ℕ) → i < length-of r → isSome (edit-at r i) ≡ true

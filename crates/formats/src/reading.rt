@@ -1,10 +1,11 @@
 //! Whole records.
 ghost use mathlib.Core.Path.{_≡_};
-ghost use Prim.Native.Nat.{ℕ, _+_, _*_, _<_, _≤_};
+ghost use Prim.Native.Nat.{_+_, _<_, _≤_};
 ghost use lib.ListN.{length};
 ghost use Rattle.std.specs.Results.{Cases};
 ghost use Rattle.std.specs.declared.result.Result.the-variants.{Ok, Err};
 ghost use Rattle.formats.specs.Records.{length-at, insertion-at, deletion-at, run-at, record-at};
+ghost use Rattle.formats.specs.Expanded.{Whole};
 ghost use Rattle.formats.specs.Kept.{raw, Kept};
 use crate::clock::head_len;
 use crate::element::element_at;
@@ -112,7 +113,7 @@ pub fn read_record<'a, K: Kind>(
     input: &'a [u8],
     at: &mut usize,
 ) -> Result<Record<'a>, Fault>
-    ensures { λ r. ⌜ Cases r (λ x. (record-at (K·Kind .width) (K·Kind .unpacked) format (now (input .entry)) (now (at .entry)) ≡ Ok (raw x, now (at .exit))) × Kept (K·Kind .width) x × (now (at .entry) < now (at .exit)) × (now (at .exit) ≤ length (now (input .entry)))) (λ e. (record-at (K·Kind .width) (K·Kind .unpacked) format (now (input .entry)) (now (at .entry)) ≡ Err e) × (now (at .exit) ≡ now (at .entry))) ⌝ }
+    ensures { λ r. ⌜ Cases r (λ x. (record-at (K·Kind .width) (K·Kind .unpacked) format (now (input .entry)) (now (at .entry)) ≡ Ok (raw x, now (at .exit))) × Kept (K·Kind .width) x × (now (at .entry) < now (at .exit)) × (now (at .exit) ≤ length (now (input .entry))) × Whole (K·Kind .width) (K·Kind .unpacked) (raw x)) (λ e. (record-at (K·Kind .width) (K·Kind .unpacked) format (now (input .entry)) (now (at .entry)) ≡ Err e) × (now (at .exit) ≡ now (at .entry))) ⌝ }
 {
     let mark = *at;
     let mut guard = Guard {

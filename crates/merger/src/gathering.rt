@@ -1,9 +1,12 @@
 //! Logs taken in.
 ghost use mathlib.Core.Path.{_≡_};
-ghost use mathlib.Core.Bool.{false};
-ghost use Prim.Native.Nat.{_+_, _≤_, _<_};
-ghost use lib.ListN.{length};
+ghost use mathlib.Core.Bool.{false, cond};
+ghost use Prim.Native.Nat.{_+_, _-_, _≤_, _<_};
+ghost use lib.Dec.{eqb, ltb};
+ghost use lib.ListN.{length, getD};
 ghost use Rattle.std.specs.Results.{Cases};
+ghost use Rattle.std.specs.declared.result.Result.the-variants.{Ok, Err};
+ghost use Rattle.edits.specs.declared.fault.Fault.the-variants.{Extent, LogHead, WrongSize};
 use crate::merge::Merge;
 use crate::merge::State;
 use edits::Fault;
@@ -20,10 +23,19 @@ impl<K: Kind, S: State> Merge<K, S> {
     /// Takes in logs that stand end to end. Where one is refused, the edits before the spot stay.
     pub fn gather(&mut self, input: &[u8]) -> Result<(), Fault>
         requires { ⌜ S·State .settled ≡ false ⌝ }
+        ensures long { λ r. ⌜ (65536 < length (now (input .entry)) → (r ≡ Err WrongSize) × (now (self .exit) ≡ now (self .entry))) ⌝ }
+        ensures empty { λ r. ⌜ (length (now (input .entry)) ≡ 0 → (r ≡ Ok tt) × (now (self .exit) ≡ now (self .entry))) ⌝ }
     {
         if input.len() > LONGEST_INPUT {
             return Err(Fault::WrongSize);
         }
+        self.gather_all(input)
+    }
+
+    /// Takes in logs that stand end to end, however long.
+    fn gather_all(&mut self, input: &[u8]) -> Result<(), Fault>
+        ensures { λ r. ⌜ (length (now (input .entry)) ≡ 0 → (r ≡ Ok tt) × (now (self .exit) ≡ now (self .entry))) ⌝ }
+    {
         let mut format = None;
         let mut at = 0;
         while at < input.len() {
@@ -67,7 +79,7 @@ impl<K: Kind, S: State> Merge<K, S> {
 /// The offset behind a head, whose kind must be that of the merge.
 fn behind_head<K: Kind>(input: &[u8], at: usize) -> Result<usize, Fault>
     requires { ⌜ at + 2 ≤ length (now input) ⌝ }
-    ensures { λ r. ⌜ Cases r (λ end. (end ≡ at + 3) × (end ≤ length (now (input .entry)))) (λ _. Unit {0}) ⌝ }
+    ensures { λ r. ⌜ Cases r (λ end. (end ≡ at + 3) × (end ≤ length (now (input .entry))) × (getD (now (input .entry)) (at + 2) 0 ≡ K·Kind .code)) (λ f. f ≡ cond (eqb (length (now (input .entry))) (at + 2)) (Extent (length (now (input .entry)))) (LogHead (at + 2))) ⌝ }
 {
     let place = at + 2;
     if place >= input.len() {
@@ -80,7 +92,9 @@ fn behind_head<K: Kind>(input: &[u8], at: usize) -> Result<usize, Fault>
 }
 
 /// Why an input does not begin with a head: it is cut off, or something else stands there.
-fn no_head(input: &[u8], at: usize) -> Fault {
+fn no_head(input: &[u8], at: usize) -> Fault
+    ensures { λ r. ⌜ r ≡ cond (ltb (length (now (input .entry)) - at) 2) (Extent (length (now (input .entry)))) (LogHead at) ⌝ }
+{
     if input.len().saturating_sub(at) < 2 {
         Fault::Extent(input.len())
     } else {

@@ -1,5 +1,6 @@
 //! A merge and its states.
 ghost use mathlib.Core.Bool.{Bool, true, false};
+ghost use Prim.Native.Nat.{_≤_};
 use elements::Kind;
 use replica::Replica;
 use tree::Reading;
@@ -28,10 +29,11 @@ pub impl State for Settled as SettledState {
 }
 
 /// A merge of logs with elements of one kind: a replica without an editor, and, once settled, the order in which its
-/// entries are read.
+/// entries are read. The reading has memory for every slot.
 #[derive(Drop)]
 pub struct Merge<K: Kind, S> {
     pub(crate) replica: Replica<K>,
     pub(crate) reading: Reading,
     pub(crate) state: S,
+    ghost sized: { replica .tree .slots ≤ reading .most },
 }

@@ -1,4 +1,13 @@
 //! From an input to the table that is printed of it.
+ghost use mathlib.Core.Path.{_≡_};
+ghost use mathlib.Core.Bool.{_&&_};
+ghost use Prim.Native.Nat.{_≤_};
+ghost use lib.Dec.{eqb, ltb};
+ghost use lib.ListN.{length, getD};
+ghost use Rattle.std.specs.Options.{isSome};
+ghost use Rattle.formats.specs.Marks.{head-at};
+ghost use Rattle.merger.specs.Tables.{Ends};
+use crate::gathering::LONGEST_INPUT;
 use crate::merge::Gathering;
 use crate::merge::GatheringState;
 use crate::merge::Merge;
@@ -18,7 +27,12 @@ pub const SLOTS: usize = 1_024;
 pub const ROOM: usize = 64;
 
 /// The table of an input, as text. The first log says of which kind the elements are.
-pub fn merged(heap: Global, input: &[u8]) -> Result<Vec<u8>, Fault> {
+pub fn merged(heap: Global, input: &[u8]) -> Result<Vec<u8>, Fault>
+    ensures { λ r. ⌜ Ends (now (input .entry)) r ⌝ }
+{
+    if input.len() > LONGEST_INPUT {
+        return Err(Fault::WrongSize);
+    }
     if holds_cells(input) {
         table_of::<Cell>(heap, input)
     } else {
@@ -27,12 +41,17 @@ pub fn merged(heap: Global, input: &[u8]) -> Result<Vec<u8>, Fault> {
 }
 
 /// Whether the input begins with a log of cells.
-fn holds_cells(input: &[u8]) -> bool {
+fn holds_cells(input: &[u8]) -> bool
+    ensures { λ r. ⌜ r ≡ (isSome (head-at (now (input .entry)) 0) && (ltb 2 (length (now (input .entry))) && eqb (getD (now (input .entry)) 2 0) 2)) ⌝ }
+{
     head_at(input, 0).is_some() && input.len() > 2 && input[2] == CellKind::kind_byte()
 }
 
 /// The table of an input with elements of the kind.
-fn table_of<K: Kind>(heap: Global, input: &[u8]) -> Result<Vec<u8>, Fault> {
+fn table_of<K: Kind>(heap: Global, input: &[u8]) -> Result<Vec<u8>, Fault>
+    requires { ⌜ length (now input) ≤ 65536 ⌝ }
+    ensures { λ r. ⌜ Ends (now (input .entry)) r ⌝ }
+{
     let mut merge = Merge::<K, Gathering>::new(heap, SLOTS, ROOM)?;
     merge.gather(input)?;
     match merge.settle() {

@@ -1,12 +1,13 @@
 -- Walks over the edits that wait: what is left decides.
 use mathlib.Core.Path.{_≡_, refl, sym, ap, _∙_}
 use mathlib.Core.Bool.{Bool, true, false, cond}
-use mathlib.Core.List.{List, [], _∷_}
-use Prim.Native.Nat.{ℕ, suc, _+_, _<_, _≤_}
+use mathlib.Core.List.{List, [], _∷_, _++_}
+use Prim.Native.Nat.{ℕ, zero, suc, _+_, _<_, _≤_}
 use native.Mathlib.Omega.{arith}
-use lib.ListN.{length, getD, drop}
+use lib.ListN.{length, getD, take, drop}
 use Rattle.std.specs.declared.option.Option.{Option}
 use Rattle.std.specs.declared.option.Option.the-variants.{Some, None}
+use Rattle.std.specs.Holes.{removed}
 use Rattle.std.proofs.shelf.Lists.{at-drop-more, at-drop-all}
 use Rattle.edits.specs.declared.id.Id.{Id}
 use Rattle.edits.specs.declared.clock.Pair.{Pair}
@@ -54,3 +55,19 @@ module _ {E : Type 0} (xs : List (Edit E)) (i : ℕ) where
 
   pub lowest-all : (low : Option Id) → lowest-from low (drop i xs) ≡ lowest-from None xs → length xs ≤ i → low ≡ lowest-from None xs
   lowest-all low left le = sym (at-drop-all (lowest-from low) xs i le) ∙ left
+
+-- an edit taken out is counted no more
+pub insertions-removed : {E : Type 0} (xs : List (Edit E)) (k : ℕ) (x : Edit E) → k < length xs → x ≡ getD xs k x
+    → insertions (removed xs k) + one-if (is-insertion x) ≡ insertions xs
+insertions-removed [] k x lt is = absurd (omega arith)
+insertions-removed {E} (y ∷ xs) zero x lt is =
+    let here : one-if (is-insertion x) ≡ one-if (is-insertion y) = ap (λ (e : Edit E). one-if (is-insertion e)) is in
+    omega arith
+insertions-removed (y ∷ xs) (suc k) x lt is =
+    let rest = insertions-removed xs k x (omega arith) is in
+    omega (arith, rest)
+
+-- an edit more behind the others
+pub insertions-push : {E : Type 0} (xs : List (Edit E)) (x : Edit E) → insertions (xs ++ (x ∷ [])) ≡ insertions xs + one-if (is-insertion x)
+insertions-push [] x = omega arith
+insertions-push (y ∷ xs) x = let rest = insertions-push xs x in omega (arith, rest)

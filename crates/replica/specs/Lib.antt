@@ -1,3 +1,4 @@
 pub mod Lists
 pub mod Rosters
 pub mod Shelves
+pub mod Taking

@@ -1,7 +1,8 @@
 -- The edits that wait, in the order in which they came.
-use mathlib.Core.Bool.{Bool, cond}
+use mathlib.Core.Bool.{Bool, cond, _&&_}
 use mathlib.Core.List.{List, [], _∷_}
 use Prim.Native.Nat.{ℕ, _+_, suc}
+use lib.Dec.{leb}
 use Rattle.std.specs.declared.option.Option.{Option}
 use Rattle.std.specs.declared.option.Option.the-variants.{Some, None}
 use Rattle.edits.specs.declared.id.Id.{Id}
@@ -12,6 +13,10 @@ use Rattle.edits.specs.Edits.{stamp-of, is-insertion}
 use Rattle.edits.specs.Ids.{same, precedes}
 use Rattle.replica.specs.Lists.{any, one-if}
 use Rattle.replica.specs.Rosters.{includes}
+
+-- a shelf has room for 1 to 64 edits
+abbrev pub room-allowed : ℕ → Bool
+room-allowed room = leb 1 room && leb room 64
 
 -- an edit with the identifier waits
 abbrev pub waits : {E : Type 0} → Id → List (Edit E) → Bool

@@ -5,6 +5,7 @@ mod rosters;
 mod shelf;
 mod shelving;
 mod taking;
+mod verdict;
 
 pub use replica::Replica;
 pub use replica::Taken;

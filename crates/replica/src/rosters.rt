@@ -5,7 +5,8 @@ ghost use mathlib.Core.List.{[]};
 ghost use Prim.Native.Nat.{_<_};
 ghost use lib.Dec.{leb};
 ghost use Rattle.std.specs.Of.Vec.{vec-items, vec-len};
-ghost use Rattle.std.specs.Vec.{made};
+ghost use Rattle.std.specs.Results.{Cases};
+ghost use Rattle.edits.specs.declared.fault.Fault.the-variants.{NoMemory};
 ghost use Rattle.edits.specs.Pairs.{count-of};
 ghost use Rattle.edits.specs.Clocks.{pairs-of};
 ghost use Rattle.replica.specs.Rosters.{lists, includes, admitted, count-up, advanced};
@@ -23,7 +24,7 @@ use std::alloc::Global;
 impl Roster {
     /// No editor, with memory for as many as there may be.
     pub fn new(heap: Global) -> Result<Roster, Fault>
-        ensures { λ r. ⌜ made r (λ x. vec-items (x .pairs) ≡ []) ⌝ }
+        ensures { λ r. ⌜ Cases r (λ x. vec-items (x .pairs) ≡ []) (λ f. f ≡ NoMemory) ⌝ }
     {
         Ok(Roster {
             pairs: Vec::with_capacity(heap, MOST_EDITORS)?,

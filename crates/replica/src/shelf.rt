@@ -1,6 +1,6 @@
 //! The edits that wait for others, as data.
 ghost use Prim.Native.Nat.{_≤_};
-ghost use Rattle.std.specs.Of.Vec.{vec-cap};
+ghost use Rattle.std.specs.Of.Vec.{vec-len, vec-cap};
 use edits::Edit;
 
 /// The most edits that a shelf can be made for.
@@ -12,4 +12,5 @@ pub struct Shelf<E: Copy> {
     pub(crate) room: usize,
     pub(crate) edits: Vec<Edit<E>>,
     ghost reserved: { room ≤ vec-cap edits },
+    ghost few: { vec-len edits ≤ room },
 }

@@ -11,7 +11,9 @@ ghost use Rattle.std.specs.Options.{Cases as BySome};
 ghost use Rattle.std.specs.Results.{Cases};
 ghost use Rattle.std.specs.declared.option.Option.the-variants.{Some, None};
 ghost use Rattle.edits.specs.declared.fault.Fault.the-variants.{OutsideLimits, NoMemory};
-ghost use Rattle.replica.specs.Shelves.{waits, insertions, before-ready, lower, lowest-from};
+ghost use Rattle.edits.specs.Edits.{is-insertion};
+ghost use Rattle.replica.specs.Lists.{one-if};
+ghost use Rattle.replica.specs.Shelves.{room-allowed, waits, insertions, before-ready, lower, lowest-from};
 use crate::roster::Roster;
 use crate::shelf::MOST_WAITING;
 use crate::shelf::Shelf;
@@ -24,7 +26,7 @@ use std::alloc::Global;
 impl<E: Copy> Shelf<E> {
     /// An empty shelf with memory for as many edits as asked for.
     pub fn new(heap: Global, room: usize) -> Result<Shelf<E>, Fault>
-        ensures { λ r. ⌜ Cases r (λ x. (x .room ≡ room) × (vec-items (x .edits) ≡ []) × (leb 1 room && leb room 64) ≡ true) (λ f. f ≡ cond (leb 1 room && leb room 64) NoMemory OutsideLimits) ⌝ }
+        ensures { λ r. ⌜ Cases r (λ x. (x .room ≡ room) × (vec-items (x .edits) ≡ []) × (room-allowed room ≡ true)) (λ f. f ≡ cond (room-allowed room) NoMemory OutsideLimits) ⌝ }
     {
         if room < 1 || room > MOST_WAITING {
             return Err(Fault::OutsideLimits);
@@ -59,14 +61,16 @@ impl<E: Copy> Shelf<E> {
     pub fn put(&mut self, edit: Edit<E>)
         requires { ⌜ vec-len (now self .edits) < now self .room ⌝ }
         ensures items { λ _. ⌜ vec-items (now (self .exit) .edits) ≡ vec-items (now (self .entry) .edits) ++ (edit ∷ []) ⌝ }
+        ensures insertions { λ _. ⌜ insertions (vec-items (now (self .exit) .edits)) ≡ insertions (vec-items (now (self .entry) .edits)) + one-if (is-insertion edit) ⌝ }
         ensures room { λ _. ⌜ now (self .exit) .room ≡ now (self .entry) .room ⌝ }
     {
-        let _ = self.edits.push(edit);
+        self.edits.push_reserved(edit);
     }
 
     /// Takes the first edit that is ready off the shelf.
     pub fn take_ready(&mut self, roster: &Roster) -> Option<Edit<E>>
-        ensures { λ r. ⌜ BySome r ((before-ready (vec-items (now (roster .entry) .pairs)) (vec-items (now (self .entry) .edits)) ≡ vec-len (now (self .entry) .edits)) × (vec-items (now (self .exit) .edits) ≡ vec-items (now (self .entry) .edits))) (λ e. (e ≡ getD (vec-items (now (self .entry) .edits)) (before-ready (vec-items (now (roster .entry) .pairs)) (vec-items (now (self .entry) .edits))) e) × (vec-items (now (self .exit) .edits) ≡ removed (vec-items (now (self .entry) .edits)) (before-ready (vec-items (now (roster .entry) .pairs)) (vec-items (now (self .entry) .edits))))) ⌝ }
+        ensures taken { λ r. ⌜ BySome r ((before-ready (vec-items (now (roster .entry) .pairs)) (vec-items (now (self .entry) .edits)) ≡ vec-len (now (self .entry) .edits)) × (vec-items (now (self .exit) .edits) ≡ vec-items (now (self .entry) .edits))) (λ e. (e ≡ getD (vec-items (now (self .entry) .edits)) (before-ready (vec-items (now (roster .entry) .pairs)) (vec-items (now (self .entry) .edits))) e) × (vec-items (now (self .exit) .edits) ≡ removed (vec-items (now (self .entry) .edits)) (before-ready (vec-items (now (roster .entry) .pairs)) (vec-items (now (self .entry) .edits))))) ⌝ }
+        ensures insertions { λ r. ⌜ BySome r (Unit {0}) (λ e. insertions (vec-items (now (self .exit) .edits)) + one-if (is-insertion e) ≡ insertions (vec-items (now (self .entry) .edits))) ⌝ }
         ensures falls { λ r. ⌜ BySome r (Unit {0}) (λ _. vec-len (now (self .exit) .edits) + 1 ≡ vec-len (now (self .entry) .edits)) ⌝ }
         ensures room { λ _. ⌜ now (self .exit) .room ≡ now (self .entry) .room ⌝ }
     {

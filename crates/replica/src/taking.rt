@@ -1,23 +1,46 @@
 //! Edits taken in.
 ghost use mathlib.Core.Path.{_≡_};
+ghost use mathlib.Core.Bool.{true, cond, _&&_};
+ghost use mathlib.Core.List.{[]};
+ghost use Prim.Native.Nat.{_+_, _≤_, _<_};
+ghost use Rattle.std.specs.Of.Vec.{vec-items, vec-len};
+ghost use Rattle.std.specs.Options.{Cases as BySome};
+ghost use Rattle.std.specs.Orderings.{When};
+ghost use Rattle.std.specs.Results.{Cases};
+ghost use Rattle.std.specs.declared.option.Option.the-variants.{None};
+ghost use Rattle.edits.specs.declared.fault.Fault.the-variants.{NoMemory, OutsideLimits, WrongSize};
+ghost use Rattle.edits.specs.Edits.{stamp-of, is-insertion};
+ghost use Rattle.tree.specs.Entries.{slots-allowed, entry-at, names};
+ghost use Rattle.replica.specs.Lists.{one-if};
+ghost use Rattle.replica.specs.Rosters.{advanced};
+ghost use Rattle.replica.specs.Shelves.{room-allowed, insertions, before-ready, lowest-from};
+ghost use Rattle.replica.specs.Taking.{roster-of, shelf-of, entries-in, known, crowded, slotless, verdict, Fits, Answered};
 use crate::replica::Replica;
 use crate::replica::Taken;
 use crate::roster::Roster;
+use crate::shelf::MOST_WAITING;
 use crate::shelf::Shelf;
+use crate::verdict::Verdict;
 use edits::Edit;
 use edits::Fault;
 use edits::Id;
 use edits::Pair;
 use std::alloc::Global;
 use tree::Entry;
+use tree::MOST_SLOTS;
 use tree::Reading;
 use tree::Tree;
 
 impl<E: Copy> Replica<E> {
-    /// An empty replica without an editor, with memory for as many entries and as many waiting edits as asked for.
-    pub fn new(heap: Global, slots: usize, room: usize) -> Result<Replica<E>, Fault> {
+    /// An empty replica without an editor, with memory for as many entries (1 to 65,536) and as many waiting edits (1 to
+    /// 64) as asked for.
+    pub fn new(heap: Global, slots: usize, room: usize) -> Result<Replica<E>, Fault>
+        ensures { λ r. ⌜ Cases r (λ x. (x .tree .slots ≡ slots) × (x .shelf .room ≡ room) × (entries-in x ≡ 0) × (shelf-of x ≡ []) × (roster-of x ≡ []) × ((slots-allowed slots && room-allowed room) ≡ true)) (λ f. f ≡ cond (slots-allowed slots && room-allowed room) NoMemory OutsideLimits) ⌝ }
+    {
+        if slots < 1 || slots > MOST_SLOTS || room < 1 || room > MOST_WAITING {
+            return Err(Fault::OutsideLimits);
+        }
         Ok(Replica {
-            slots,
             tree: Tree::new(heap, slots)?,
             shelf: Shelf::new(heap, room)?,
             roster: Roster::new(heap)?,
@@ -26,99 +49,158 @@ impl<E: Copy> Replica<E> {
 
     /// Takes an edit in. It is tested in turn whether it is known, whether its editor finds a place, whether an
     /// insertion finds a slot, and, unless it is ready, whether it finds a place on the shelf.
-    pub fn take_in(&mut self, edit: &Edit<E>) -> Result<Taken, Fault> {
-        let stamp = edit.stamp();
-        if self.knows(stamp.id) {
-            return Ok(Taken::Known);
+    pub fn take_in(&mut self, edit: &Edit<E>) -> Result<Taken, Fault>
+        ensures slots { λ _. ⌜ now (self .exit) .tree .slots ≡ now (self .entry) .tree .slots ⌝ }
+        ensures answer { λ r. ⌜ Answered (now (edit .entry)) (now (self .entry)) (now (self .exit)) r (verdict (now (self .entry)) (now (edit .entry))) ⌝ }
+    {
+        match self.judge(edit) {
+            Verdict::Knows => Ok(Taken::Known),
+            Verdict::Refuses(fault) => Err(fault),
+            Verdict::Applies => {
+                self.roster.admit(edit.stamp().id.editor);
+                self.apply(edit);
+                Ok(Taken::Applied(self.release() + 1))
+            }
+            Verdict::Shelves => {
+                self.roster.admit(edit.stamp().id.editor);
+                self.shelf.put(*edit);
+                Ok(Taken::Applied(0))
+            }
         }
-        if self.roster.is_full() && !self.roster.lists(stamp.id.editor) {
-            return Err(Fault::RosterFull(stamp.id));
+    }
+
+    /// What becomes of the edit.
+    fn judge(&self, edit: &Edit<E>) -> Verdict
+        ensures value { λ r. ⌜ r ≡ verdict (now (self .entry)) (now (edit .entry)) ⌝ }
+        ensures fits { λ r. ⌜ Fits (now (self .entry)) (now (edit .entry)) r ⌝ }
+    {
+        let id = edit.stamp().id;
+        if self.knows(id) {
+            Verdict::Knows
+        } else if self.is_crowded(id) {
+            Verdict::Refuses(Fault::RosterFull(id))
+        } else if self.is_slotless(edit) {
+            Verdict::Refuses(Fault::SlotsFull(id))
+        } else if self.roster.includes(&edit.stamp().clock) {
+            Verdict::Applies
+        } else if self.shelf.is_full() {
+            Verdict::Refuses(Fault::ShelfFull(id))
+        } else {
+            Verdict::Shelves
         }
-        if self.lacks_slot(edit) {
-            return Err(Fault::SlotsFull(stamp.id));
-        }
-        if self.roster.includes(&stamp.clock) {
-            self.roster.admit(stamp.id.editor);
-            self.apply(edit)?;
-            return Ok(Taken::Applied(self.release()?.saturating_add(1)));
-        }
-        if self.shelf.is_full() {
-            return Err(Fault::ShelfFull(stamp.id));
-        }
-        self.roster.admit(stamp.id.editor);
-        self.shelf.put(*edit);
-        Ok(Taken::Applied(0))
     }
 
     /// Whether the edit was applied or waits.
-    fn knows(&self, id: Id) -> bool {
+    fn knows(&self, id: Id) -> bool
+        ensures { λ r. ⌜ r ≡ known (now (self .entry)) id ⌝ }
+    {
         self.roster.covers(id) || self.shelf.holds(id)
     }
 
-    /// Whether the edit is an insertion for which no slot is left, those counted that waiting insertions will fill.
-    fn lacks_slot(&self, edit: &Edit<E>) -> bool {
-        edit.is_insertion() && self.tree.len().saturating_add(self.shelf.insertions()) >= self.slots
+    /// Whether the edit's editor is new and finds no place.
+    fn is_crowded(&self, id: Id) -> bool
+        ensures { λ r. ⌜ r ≡ crowded (now (self .entry)) id ⌝ }
+    {
+        self.roster.is_full() && !self.roster.lists(id.editor)
+    }
+
+    /// Whether the edit is an insertion for which no slot is left, those counted that are kept for waiting insertions.
+    fn is_slotless(&self, edit: &Edit<E>) -> bool
+        ensures { λ r. ⌜ r ≡ slotless (now (self .entry)) (now (edit .entry)) ⌝ }
+    {
+        edit.is_insertion() && self.tree.len() + self.shelf.insertions() >= self.tree.slots()
     }
 
     /// Applies an edit. One whose parent or target is no entry only counts.
-    fn apply(&mut self, edit: &Edit<E>) -> Result<(), Fault>
-        ensures { λ _. ⌜ now (self .exit) .shelf ≡ now (self .entry) .shelf ⌝ }
+    fn apply(&mut self, edit: &Edit<E>)
+        requires { ⌜ entries-in (now self) + (insertions (shelf-of (now self)) + one-if (is-insertion (now edit))) ≤ now self .tree .slots ⌝ }
+        ensures slots { λ _. ⌜ now (self .exit) .tree .slots ≡ now (self .entry) .tree .slots ⌝ }
+        ensures shelf { λ _. ⌜ now (self .exit) .shelf ≡ now (self .entry) .shelf ⌝ }
+        ensures roster { λ _. ⌜ roster-of (now (self .exit)) ≡ advanced (stamp-of (now (edit .entry)) .id) (roster-of (now (self .entry))) ⌝ }
     {
         match edit {
             Edit::Insertion { placement, element } => {
-                self.tree
-                    .insert(
-                        placement.stamp.id,
-                        placement.parent,
-                        placement.side,
-                        *element,
-                    )?;
+                let _ = self.tree.insert(
+                    placement.stamp.id,
+                    placement.parent,
+                    placement.side,
+                    *element,
+                );
             }
             Edit::Deletion(removal) => {
                 self.tree.delete(removal.target);
             }
         }
         self.roster.advance(edit.stamp().id);
-        Ok(())
+    }
+
+    /// Applies a waiting edit that is ready, if there is one.
+    fn release_one(&mut self) -> bool
+        ensures slots { λ _. ⌜ now (self .exit) .tree .slots ≡ now (self .entry) .tree .slots ⌝ }
+        ensures released { λ r. ⌜ When r (vec-len (now (self .exit) .shelf .edits) + 1 ≡ vec-len (now (self .entry) .shelf .edits)) ((vec-len (now (self .exit) .shelf .edits) ≡ vec-len (now (self .entry) .shelf .edits)) × (before-ready (roster-of (now (self .exit))) (shelf-of (now (self .exit))) ≡ vec-len (now (self .exit) .shelf .edits))) ⌝ }
+    {
+        match self.shelf.take_ready(&self.roster) {
+            Some(edit) => {
+                self.apply(&edit);
+                true
+            }
+            None => false,
+        }
     }
 
     /// Applies waiting edits that are ready until none is, and answers how many.
-    fn release(&mut self) -> Result<usize, Fault> {
-        let mut released = 0usize;
-        while let Some(edit) = self.shelf.take_ready(&self.roster) {
-            self.apply(&edit)?;
-            released = released.saturating_add(1);
+    fn release(&mut self) -> usize
+        ensures slots { λ _. ⌜ now (self .exit) .tree .slots ≡ now (self .entry) .tree .slots ⌝ }
+        ensures count { λ r. ⌜ r + vec-len (now (self .exit) .shelf .edits) ≡ vec-len (now (self .entry) .shelf .edits) ⌝ }
+        ensures none { λ _. ⌜ before-ready (roster-of (now (self .exit))) (shelf-of (now (self .exit))) ≡ vec-len (now (self .exit) .shelf .edits) ⌝ }
+    {
+        let mut released = 0;
+        while self.release_one() {
+            released += 1;
         }
-        Ok(released)
+        released
     }
 
     /// The lowest identifier that waits.
-    pub fn lowest_waiting(&self) -> Option<Id> {
+    pub fn lowest_waiting(&self) -> Option<Id>
+        ensures { λ r. ⌜ r ≡ lowest-from None (shelf-of (now (self .entry))) ⌝ }
+    {
         self.shelf.lowest()
     }
 
     /// The editors and how many edits of each were applied; an editor whose edits all wait is listed with 0.
-    pub fn counts(&self) -> &[Pair] {
+    pub fn counts(&self) -> &[Pair]
+        ensures { λ r. ⌜ now r ≡ roster-of (now (self .entry)) ⌝ }
+    {
         self.roster.pairs()
     }
 
     /// How many entries there are, tombstones counted.
-    pub fn entries(&self) -> usize {
+    pub fn entries(&self) -> usize
+        ensures { λ r. ⌜ r ≡ entries-in (now (self .entry)) ⌝ }
+    {
         self.tree.len()
     }
 
     /// The entry in a slot.
-    pub fn entry(&self, slot: usize) -> Option<Entry<E>> {
+    pub fn entry(&self, slot: usize) -> Option<Entry<E>>
+        ensures { λ r. ⌜ r ≡ entry-at (vec-items (now (self .entry) .tree .nodes)) slot ⌝ }
+    {
         self.tree.entry(slot)
     }
 
     /// The slot of an identifier.
-    pub fn slot_of(&self, id: Id) -> Option<usize> {
+    pub fn slot_of(&self, id: Id) -> Option<usize>
+        ensures { λ r. ⌜ BySome r (Unit {0}) (λ s. names id (entry-at (vec-items (now (self .entry) .tree .nodes)) s) ≡ true) ⌝ }
+    {
         self.tree.slot_of(id)
     }
 
-    /// Lists the entries in reading order.
-    pub fn read(&self, reading: &mut Reading) -> Result<(), Fault> {
+    /// Lists the entries in reading order. A reading with too little memory is the caller's fault, and stays as it is.
+    pub fn read(&self, reading: &mut Reading) -> Result<(), Fault>
+        ensures most { λ _. ⌜ now (reading .exit) .most ≡ now (reading .entry) .most ⌝ }
+        ensures answer { λ r. ⌜ Cases r (λ _. entries-in (now (self .entry)) ≤ now (reading .entry) .most) (λ f. (f ≡ WrongSize) × (now (reading .entry) .most < entries-in (now (self .entry))) × (now (reading .exit) ≡ now (reading .entry))) ⌝ }
+    {
         self.tree.read(reading)
     }
 }

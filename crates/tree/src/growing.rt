@@ -1,4 +1,14 @@
 //! Entries hung under each other and turned into tombstones.
+ghost use mathlib.Core.Path.{_≡_};
+ghost use mathlib.Core.Bool.{true, cond};
+ghost use mathlib.Core.List.{[], _∷_, _++_};
+ghost use Prim.Native.Nat.{ℕ, _+_, _≤_, _<_};
+ghost use Rattle.std.specs.Of.Vec.{vec-items, vec-len};
+ghost use Rattle.std.specs.Options.{Cases as BySome};
+ghost use Rattle.std.specs.Results.{Cases};
+ghost use Rattle.edits.specs.declared.fault.Fault.the-variants.{NoMemory, OutsideLimits, SlotsFull};
+ghost use Rattle.tree.specs.Entries.{slots-allowed, entries-of, entry-at, names, shown-entry, hidden-at};
+ghost use Rattle.std.specs.Orderings.{When};
 use crate::index::Index;
 use crate::node::Entry;
 use crate::node::Node;
@@ -6,7 +16,6 @@ use crate::tree::MOST_SLOTS;
 use crate::tree::Tree;
 use edits::Fault;
 use edits::FaultFromAlloc;
-use edits::FaultFromRefused;
 use edits::Id;
 use edits::Parent;
 use edits::Side;
@@ -20,8 +29,10 @@ struct Gap {
 }
 
 impl<E: Copy> Tree<E> {
-    /// An empty tree with memory for as many entries as there are slots.
-    pub fn new(heap: Global, slots: usize) -> Result<Tree<E>, Fault> {
+    /// An empty tree with memory for as many entries as there are slots, 1 to 65,536 of them.
+    pub fn new(heap: Global, slots: usize) -> Result<Tree<E>, Fault>
+        ensures { λ r. ⌜ Cases r (λ t. (t .slots ≡ slots) × (vec-items (t .nodes) ≡ []) × (slots-allowed slots ≡ true)) (λ f. f ≡ cond (slots-allowed slots) NoMemory OutsideLimits) ⌝ }
+    {
         if slots < 1 || slots > MOST_SLOTS {
             return Err(Fault::OutsideLimits);
         }
@@ -33,77 +44,101 @@ impl<E: Copy> Tree<E> {
         })
     }
 
+    /// How many entries it can have.
+    pub fn slots(&self) -> usize
+        ensures { λ r. ⌜ r ≡ now (self .entry) .slots ⌝ }
+    {
+        self.slots
+    }
+
     /// How many entries there are, tombstones counted.
-    pub fn len(&self) -> usize {
+    pub fn len(&self) -> usize
+        ensures { λ r. ⌜ r ≡ vec-len (now (self .entry) .nodes) ⌝ }
+    {
         self.nodes.len()
     }
 
-    /// The slot of an entry.
-    pub fn slot_of(&self, id: Id) -> Option<usize> {
-        self.index.find(id)
+    /// The entry in a slot.
+    pub fn entry(&self, slot: usize) -> Option<Entry<E>>
+        ensures { λ r. ⌜ r ≡ entry-at (vec-items (now (self .entry) .nodes)) slot ⌝ }
+    {
+        if slot < self.nodes.len() {
+            Some(self.nodes[slot].entry)
+        } else {
+            None
+        }
     }
 
-    /// The entry in a slot.
-    pub fn entry(&self, slot: usize) -> Option<Entry<E>> {
-        let node = self.nodes.get(slot)?;
-        Some(node.entry)
+    /// The slot of an entry.
+    pub fn slot_of(&self, id: Id) -> Option<usize>
+        ensures found { λ r. ⌜ BySome r (Unit {0}) (λ s. names id (entry-at (vec-items (now (self .entry) .nodes)) s) ≡ true) ⌝ }
+        ensures within { λ r. ⌜ BySome r (Unit {0}) (λ s. s < vec-len (now (self .entry) .nodes)) ⌝ }
+    {
+        let slot = self.index.find(id)?;
+        if slot < self.nodes.len() && self.nodes[slot].entry.id.is(id) {
+            Some(slot)
+        } else {
+            None
+        }
     }
 
     /// Hangs a new entry under its parent on its side. Where the parent is no entry, nothing changes.
-    pub fn insert(
-        &mut self,
-        id: Id,
-        parent: Parent,
-        side: Side,
-        element: E,
-    ) -> Result<bool, Fault> {
-        match parent {
-            Parent::Start => self.hang(id, None, side, element)?,
+    pub fn insert(&mut self, id: Id, parent: Parent, side: Side, element: E) -> Result<bool, Fault>
+        ensures slots { λ _. ⌜ now (self .exit) .slots ≡ now (self .entry) .slots ⌝ }
+        ensures entries { λ r. ⌜ Cases r (λ placed. entries-of (vec-items (now (self .exit) .nodes)) ≡ cond placed (entries-of (vec-items (now (self .entry) .nodes)) ++ (shown-entry id element ∷ [])) (entries-of (vec-items (now (self .entry) .nodes)))) (λ f. (f ≡ SlotsFull id) × (vec-len (now (self .entry) .nodes) ≡ now (self .entry) .slots) × (vec-items (now (self .exit) .nodes) ≡ vec-items (now (self .entry) .nodes))) ⌝ }
+        ensures len { λ r. ⌜ Cases r (λ placed. vec-len (now (self .exit) .nodes) ≡ vec-len (now (self .entry) .nodes) + cond placed 1 0) (λ _. vec-len (now (self .exit) .nodes) ≡ vec-len (now (self .entry) .nodes)) ⌝ }
+    {
+        let parent = match parent {
+            Parent::Start => None,
             Parent::Entry(above) => match self.slot_of(above) {
-                Some(slot) => self.hang(id, Some(slot), side, element)?,
+                Some(slot) => Some(slot),
                 None => return Ok(false),
             },
+        };
+        if self.nodes.len() >= self.slots {
+            return Err(Fault::SlotsFull(id));
         }
+        self.hang(id, parent, side, element);
         Ok(true)
     }
 
     /// Turns an entry into a tombstone. Where the target is no entry, nothing changes.
-    pub fn delete(&mut self, target: Id) -> bool {
+    pub fn delete(&mut self, target: Id) -> bool
+        ensures slots { λ _. ⌜ now (self .exit) .slots ≡ now (self .entry) .slots ⌝ }
+        ensures len { λ _. ⌜ vec-len (now (self .exit) .nodes) ≡ vec-len (now (self .entry) .nodes) ⌝ }
+        ensures entries { λ r. ⌜ When r ((s : ℕ) × (names target (entry-at (vec-items (now (self .entry) .nodes)) s) ≡ true) × (entries-of (vec-items (now (self .exit) .nodes)) ≡ hidden-at s (entries-of (vec-items (now (self .entry) .nodes))))) (entries-of (vec-items (now (self .exit) .nodes)) ≡ entries-of (vec-items (now (self .entry) .nodes))) ⌝ }
+    {
         let Some(slot) = self.slot_of(target) else {
             return false;
         };
-        match self.nodes.get_mut(slot) {
-            Some(node) => {
-                node.entry.shown = false;
-                true
-            }
-            None => false,
-        }
+        self.nodes[slot].entry.shown = false;
+        true
     }
 
     /// Puts a new entry among the children of a slot, or among those of the start.
-    fn hang(&mut self, id: Id, parent: Option<usize>, side: Side, element: E) -> Result<(), Fault> {
+    fn hang(&mut self, id: Id, parent: Option<usize>, side: Side, element: E)
+        requires { ⌜ vec-len (now self .nodes) < now self .slots ⌝ }
+        ensures slots { λ _. ⌜ now (self .exit) .slots ≡ now (self .entry) .slots ⌝ }
+        ensures entries { λ _. ⌜ entries-of (vec-items (now (self .exit) .nodes)) ≡ entries-of (vec-items (now (self .entry) .nodes)) ++ (shown-entry id element ∷ []) ⌝ }
+        ensures len { λ _. ⌜ vec-len (now (self .exit) .nodes) ≡ vec-len (now (self .entry) .nodes) + 1 ⌝ }
+    {
         let slot = self.nodes.len();
-        if slot >= self.slots {
-            return Err(Fault::SlotsFull(id));
-        }
         let gap = self.gap(parent, side, id);
-        self.index.add(id, slot)?;
-        self.nodes
-            .push(Node {
-                entry: Entry {
-                    id,
-                    element,
-                    shown: true,
-                },
-                parent,
-                side,
-                left: None,
-                right: None,
-                next: gap.after,
-            })?;
+        self.index.add(id, slot);
+        let node = Node {
+            entry: Entry {
+                id,
+                element,
+                shown: true,
+            },
+            parent,
+            side,
+            left: None,
+            right: None,
+            next: gap.after,
+        };
+        self.nodes.push_reserved(node);
         self.link(parent, side, gap.before, slot);
-        Ok(())
     }
 
     /// The first child of a slot on a side, or the first of those of the start.
@@ -139,10 +174,14 @@ impl<E: Copy> Tree<E> {
     }
 
     /// Sets the link behind a sibling, or else the link to the first child.
-    fn link(&mut self, parent: Option<usize>, side: Side, before: Option<usize>, to: usize) {
+    fn link(&mut self, parent: Option<usize>, side: Side, before: Option<usize>, to: usize)
+        ensures slots { λ _. ⌜ now (self .exit) .slots ≡ now (self .entry) .slots ⌝ }
+        ensures len { λ _. ⌜ vec-len (now (self .exit) .nodes) ≡ vec-len (now (self .entry) .nodes) ⌝ }
+        ensures entries { λ _. ⌜ entries-of (vec-items (now (self .exit) .nodes)) ≡ entries-of (vec-items (now (self .entry) .nodes)) ⌝ }
+    {
         if let Some(slot) = before {
-            if let Some(node) = self.nodes.get_mut(slot) {
-                node.next = Some(to);
+            if slot < self.nodes.len() {
+                self.nodes[slot].next = Some(to);
             }
             return;
         }
@@ -150,10 +189,10 @@ impl<E: Copy> Tree<E> {
             self.first = Some(to);
             return;
         };
-        if let Some(node) = self.nodes.get_mut(slot) {
+        if slot < self.nodes.len() {
             match side {
-                Side::Left => node.left = Some(to),
-                Side::Right => node.right = Some(to),
+                Side::Left => self.nodes[slot].left = Some(to),
+                Side::Right => self.nodes[slot].right = Some(to),
             }
         }
     }

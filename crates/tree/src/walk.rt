@@ -1,4 +1,9 @@
 //! The entries in reading order, found by links: no stack, no recursion.
+ghost use mathlib.Core.Path.{_≡_};
+ghost use Prim.Native.Nat.{_≤_, _<_};
+ghost use Rattle.std.specs.Of.Vec.{vec-len};
+ghost use Rattle.std.specs.Results.{Cases};
+ghost use Rattle.edits.specs.declared.fault.Fault.the-variants.{WrongSize};
 use crate::reading::Reading;
 use crate::tree::Tree;
 use edits::Fault;
@@ -42,9 +47,16 @@ impl<E: Copy> Tree<E> {
         None
     }
 
-    /// Lists the entries in reading order.
-    pub fn read(&self, reading: &mut Reading) -> Result<(), Fault> {
-        reading.restart(self.nodes.len())?;
+    /// Lists the entries in reading order. A reading with too little memory is the caller's fault, and stays as it is.
+    pub fn read(&self, reading: &mut Reading) -> Result<(), Fault>
+        ensures answer { λ r. ⌜ Cases r (λ _. vec-len (now (self .entry) .nodes) ≤ now (reading .entry) .most) (λ f. (f ≡ WrongSize) × (now (reading .entry) .most < vec-len (now (self .entry) .nodes)) × (now (reading .exit) ≡ now (reading .entry))) ⌝ }
+        ensures most { λ _. ⌜ now (reading .exit) .most ≡ now (reading .entry) .most ⌝ }
+        ensures len { λ r. ⌜ Cases r (λ _. vec-len (now (reading .exit) .order) ≤ vec-len (now (self .entry) .nodes)) (λ _. Unit {0}) ⌝ }
+    {
+        if self.nodes.len() > reading.most {
+            return Err(Fault::WrongSize);
+        }
+        reading.restart(self.nodes.len());
         let Some(first) = self.first else {
             return Ok(());
         };
@@ -53,7 +65,7 @@ impl<E: Copy> Tree<E> {
             let Some(node) = self.nodes.get(at) else {
                 break;
             };
-            reading.add(at, node.entry.shown)?;
+            reading.add(at, node.entry.shown);
             match self.after(at) {
                 Some(next) => at = next,
                 None => break,
