@@ -108,7 +108,7 @@ impl<E: Copy> Replica<E> {
     fn is_slotless(&self, edit: &Edit<E>) -> bool
         ensures { λ r. ⌜ r ≡ slotless (now (self .entry)) (now (edit .entry)) ⌝ }
     {
-        edit.is_insertion() && self.tree.len() + self.shelf.insertions() >= self.tree.slots()
+        edit.is_insertion() && self.entries() + self.shelf.insertions() >= self.tree.slots()
     }
 
     /// Applies an edit. One whose parent or target is no entry only counts.

@@ -4,7 +4,6 @@ ghost use mathlib.Core.Bool.{true, cond};
 ghost use mathlib.Core.List.{[], _∷_, _++_};
 ghost use Prim.Native.Nat.{ℕ, _+_, _≤_, _<_};
 ghost use Rattle.std.specs.Of.Vec.{vec-items, vec-len};
-ghost use Rattle.std.specs.Options.{Cases as BySome};
 ghost use Rattle.std.specs.Results.{Cases};
 ghost use Rattle.edits.specs.declared.fault.Fault.the-variants.{NoMemory, OutsideLimits, SlotsFull};
 ghost use Rattle.tree.specs.Entries.{slots-allowed, entries-of, entry-at, names, shown-entry, hidden-at};
@@ -42,44 +41,6 @@ impl<E: Copy> Tree<E> {
             first: None,
             index: Index::new(heap, slots)?,
         })
-    }
-
-    /// How many entries it can have.
-    pub fn slots(&self) -> usize
-        ensures { λ r. ⌜ r ≡ now (self .entry) .slots ⌝ }
-    {
-        self.slots
-    }
-
-    /// How many entries there are, tombstones counted.
-    pub fn len(&self) -> usize
-        ensures { λ r. ⌜ r ≡ vec-len (now (self .entry) .nodes) ⌝ }
-    {
-        self.nodes.len()
-    }
-
-    /// The entry in a slot.
-    pub fn entry(&self, slot: usize) -> Option<Entry<E>>
-        ensures { λ r. ⌜ r ≡ entry-at (vec-items (now (self .entry) .nodes)) slot ⌝ }
-    {
-        if slot < self.nodes.len() {
-            Some(self.nodes[slot].entry)
-        } else {
-            None
-        }
-    }
-
-    /// The slot of an entry.
-    pub fn slot_of(&self, id: Id) -> Option<usize>
-        ensures found { λ r. ⌜ BySome r (Unit {0}) (λ s. names id (entry-at (vec-items (now (self .entry) .nodes)) s) ≡ true) ⌝ }
-        ensures within { λ r. ⌜ BySome r (Unit {0}) (λ s. s < vec-len (now (self .entry) .nodes)) ⌝ }
-    {
-        let slot = self.index.find(id)?;
-        if slot < self.nodes.len() && self.nodes[slot].entry.id.is(id) {
-            Some(slot)
-        } else {
-            None
-        }
     }
 
     /// Hangs a new entry under its parent on its side. Where the parent is no entry, nothing changes.

@@ -1,4 +1,5 @@
 //! The document in memory: a Fugue tree as linked nodes in one `Vec`, listed in reading order.
+mod asking;
 mod growing;
 mod index;
 mod node;

@@ -67,19 +67,19 @@ impl Reading {
     }
 
     /// One slot more, behind those that were added.
-    pub(crate) fn add(&mut self, slot: usize, shown: bool)
+    pub(crate) fn add(&mut self, at: usize, shown: bool)
         requires room { ⌜ vec-len (now self .order) < now self .most ⌝ }
         requires few { ⌜ now self .shown ≤ vec-len (now self .order) ⌝ }
-        ensures order { λ _. ⌜ vec-items (now (self .exit) .order) ≡ vec-items (now (self .entry) .order) ++ (slot ∷ []) ⌝ }
+        ensures order { λ _. ⌜ vec-items (now (self .exit) .order) ≡ vec-items (now (self .entry) .order) ++ (at ∷ []) ⌝ }
         ensures most { λ _. ⌜ now (self .exit) .most ≡ now (self .entry) .most ⌝ }
         ensures shown { λ _. ⌜ now (self .exit) .shown ≡ now (self .entry) .shown + cond shown 1 0 ⌝ }
         ensures len { λ _. ⌜ vec-len (now (self .exit) .order) ≡ vec-len (now (self .entry) .order) + 1 ⌝ }
         ensures few { λ _. ⌜ now (self .exit) .shown ≤ vec-len (now (self .exit) .order) ⌝ }
     {
-        self.order.push_reserved(slot);
+        self.order.push_reserved(at);
         if shown {
-            if slot < self.indexes.len() {
-                self.indexes[slot] = Some(self.shown);
+            if at < self.indexes.len() {
+                self.indexes[at] = Some(self.shown);
             }
             self.shown += 1;
         }
