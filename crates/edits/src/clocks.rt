@@ -1,6 +1,5 @@
 //! What a clock counts.
 ghost use mathlib.Core.Path.{_≡_};
-ghost use mathlib.Core.List.{[]};
 ghost use mathlib.Core.Bool.{true};
 ghost use Prim.Native.Nat.{_≤_, _<_};
 ghost use lib.ListN.{length};
@@ -15,20 +14,6 @@ use crate::pairs::count_among;
 use crate::pairs::place_among;
 
 impl Clock {
-    /// The clock that counts nothing.
-    pub fn empty() -> Clock
-        ensures { λ r. ⌜ pairs-of r ≡ [] ⌝ }
-    {
-        let unused = Pair {
-            editor: 0,
-            count: 0,
-        };
-        Clock {
-            len: 0,
-            pairs: [unused; 16],
-        }
-    }
-
     /// What the clock lists.
     pub fn listed(&self) -> &[Pair]
         ensures { λ r. ⌜ now r ≡ pairs-of (now (self .entry)) ⌝ }

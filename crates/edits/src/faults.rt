@@ -9,7 +9,6 @@ use crate::fault::Layer;
 use crate::fault::Spot;
 use std::alloc::AllocError;
 use std::alloc::Global;
-use std::alloc::Refused;
 
 impl Fault {
     /// The number of the refusal; 0 is want of memory.
@@ -122,14 +121,6 @@ pub impl From<AllocError> for Fault as FaultFromAlloc {
     ghost converts = { λ _ r. r ≡ NoMemory };
 
     fn from(_e: AllocError) -> Fault {
-        Fault::NoMemory
-    }
-}
-
-pub impl<T: Drop> From<Refused<T>> for Fault as FaultFromRefused {
-    ghost converts = { λ _ r. r ≡ NoMemory };
-
-    fn from(_e: Refused<T>) -> Fault {
         Fault::NoMemory
     }
 }

@@ -19,6 +19,7 @@ use crate::fault::Fault;
 use crate::id::Id;
 
 impl Stamp {
+    /// The stamp of these parts.
     pub fn new(id: Id, clock: Clock) -> Result<Stamp, Fault>
         ensures { λ r. ⌜ Cases r (λ x. (x .id ≡ id) × (x .clock ≡ clock)) (λ f. (f ≡ OutsideLimits) × (stamp-kept id clock ≡ false)) ⌝ }
     {
@@ -31,6 +32,7 @@ impl Stamp {
 }
 
 impl Placement {
+    /// The placement of these parts.
     pub fn new(stamp: Stamp, parent: Parent, side: Side) -> Result<Placement, Fault>
         ensures { λ r. ⌜ Cases r (λ x. (x .stamp ≡ stamp) × (x .parent ≡ parent) × (x .side ≡ side)) (λ f. (f ≡ OutsideLimits) × (parent-kept (pairs-of (stamp .clock)) parent side ≡ false)) ⌝ }
     {
@@ -47,6 +49,7 @@ impl Placement {
 }
 
 impl Removal {
+    /// The removal of these parts.
     pub fn new(stamp: Stamp, target: Id) -> Result<Removal, Fault>
         ensures { λ r. ⌜ Cases r (λ x. (x .stamp ≡ stamp) × (x .target ≡ target)) (λ f. (f ≡ OutsideLimits) × (covers (pairs-of (stamp .clock)) target ≡ false)) ⌝ }
     {

@@ -8,7 +8,7 @@ ghost use Rattle.std.specs.Options.{Cases};
 use std::num::f32_from_bits_with_nan;
 
 /// The character's number.
-pub fn number(c: char) -> u32
+pub(crate) fn number(c: char) -> u32
     ensures value { λ r. ⌜ r ≡ c ⌝ }
     ensures scalar { λ _. ⌜ scalar c ≡ true ⌝ }
 {
@@ -16,7 +16,7 @@ pub fn number(c: char) -> u32
 }
 
 /// The bits of a finite float.
-pub fn bits(x: f32) -> u32
+pub(crate) fn bits(x: f32) -> u32
     requires { ⌜ finite x ≡ true ⌝ }
     ensures value { λ r. ⌜ r ≡ toBits binary32 x ⌝ }
     ensures fits { λ _. ⌜ fits binary32 x ≡ true ⌝ }
@@ -25,7 +25,7 @@ pub fn bits(x: f32) -> u32
 }
 
 /// The float with these bits, unless it is infinite or no number.
-pub fn finite_float(bits: u32) -> Option<f32>
+pub(crate) fn finite_float(bits: u32) -> Option<f32>
     ensures { λ r. ⌜ Cases r (finite (ofBits binary32 bits) ≡ false) (λ x. (x ≡ ofBits binary32 bits) × (finite (ofBits binary32 bits) ≡ true)) ⌝ }
 {
     let x = f32_from_bits_with_nan(bits);

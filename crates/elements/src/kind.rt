@@ -42,9 +42,11 @@ pub trait Kind: Copy {
 
     law exact: { (b : List ℕ) (x : Self) → Bytes b → unpacked b ≡ Some x → (proper x ≡ true) × (packed x ≡ b) };
 
+    /// `WIDTH`, for generic code.
     fn bytes() -> usize
         ensures { λ r. ⌜ r ≡ width ⌝ };
 
+    /// `CODE`, for generic code.
     fn kind_byte() -> u8
         ensures { λ r. ⌜ r ≡ code ⌝ };
 

@@ -55,11 +55,14 @@ module _ {K : Type 0} (width : ℕ) (unpacked : List ℕ → Option K) where
       placement-at s at then (λ x. length-at (x .0) s (at + 8 + 3 * length (x .1)) then (λ m. all-at m s (at + 9 + 3 * length (x .1)) then (λ _.
       Ok (run (x .0) (x .1) (x .2) (x .3) m (at + 9 + 3 * length (x .1)) (take (m * width) (drop (at + 9 + 3 * length (x .1)) s)), at + 9 + 3 * length (x .1) + m * width))))
 
+  -- the record with the mark a b, which stands at the offset mark, and whose fields begin at the offset at
+  abbrev pub fields-at : Format → ℕ → ℕ → ℕ → List ℕ → ℕ → Result (Raw × ℕ) Fault
+  fields-at format a b mark s at =
+      cond (insertion-mark a b) (insertion-at s at)
+      (cond (deletion-mark a b) (deletion-at s at)
+      (cond (has-runs format && run-mark a b) (run-at s at)
+      (Err (Mark mark))))
+
   -- the record whose mark stands at the offset at, and the offset behind it
   abbrev pub record-at : Format → List ℕ → ℕ → Result (Raw × ℕ) Fault
-  record-at format s at =
-      byte-at s at then (λ a. byte-at s (at + 1) then (λ b.
-      cond (insertion-mark a b) (insertion-at s (at + 2))
-      (cond (deletion-mark a b) (deletion-at s (at + 2))
-      (cond (has-runs format && run-mark a b) (run-at s (at + 2))
-      (Err (Mark at))))))
+  record-at format s at = byte-at s at then (λ a. byte-at s (at + 1) then (λ b. fields-at format a b at s (at + 2)))

@@ -15,7 +15,7 @@ use edits::Pair;
 use edits::Stamp;
 
 /// The count of pairs, and the pairs.
-pub fn clock_at(input: &[u8], at: usize) -> Result<Clock, Fault>
+pub(crate) fn clock_at(input: &[u8], at: usize) -> Result<Clock, Fault>
     ensures { λ r. ⌜ Cases r (λ x. (clock-at (now (input .entry)) at ≡ Ok (pairs-of x)) × (clock-kept x ≡ true) × (at + 1 + 3 * length (pairs-of x) ≤ length (now (input .entry)))) (λ e. clock-at (now (input .entry)) at ≡ Err e) ⌝ }
 {
     let len = byte_at(input, at)?;
@@ -41,7 +41,7 @@ pub fn clock_at(input: &[u8], at: usize) -> Result<Clock, Fault>
 }
 
 /// How many bytes the head has: the identifier, the count of pairs, the pairs.
-pub fn head_len(stamp: &Stamp) -> usize
+pub(crate) fn head_len(stamp: &Stamp) -> usize
     ensures value { λ r. ⌜ r ≡ 4 + 3 * length (pairs-of (now (stamp .entry) .clock)) ⌝ }
     ensures most { λ r. ⌜ r ≤ 52 ⌝ }
 {

@@ -9,7 +9,7 @@ use edits::Fault;
 use elements::Kind;
 
 /// The bytes of the element at the offset, themselves.
-pub fn element_at<K: Kind>(input: &[u8], at: usize) -> Result<&[u8], Fault>
+pub(crate) fn element_at<K: Kind>(input: &[u8], at: usize) -> Result<&[u8], Fault>
     ensures { λ r. ⌜ Cases r (λ b. (element-at (K·Kind .width) (K·Kind .unpacked) (now (input .entry)) at ≡ Ok (now b)) × (at + K·Kind .width ≤ length (now (input .entry))) × (length (now b) ≡ K·Kind .width)) (λ e. element-at (K·Kind .width) (K·Kind .unpacked) (now (input .entry)) at ≡ Err e) ⌝ }
 {
     let Some(end) = at.checked_add(K::bytes()) else {
@@ -26,7 +26,7 @@ pub fn element_at<K: Kind>(input: &[u8], at: usize) -> Result<&[u8], Fault>
 }
 
 /// The bytes of `len` elements, each tested before the next is read.
-pub fn elements_at<K: Kind>(input: &[u8], at: usize, len: u8) -> Result<&[u8], Fault>
+pub(crate) fn elements_at<K: Kind>(input: &[u8], at: usize, len: u8) -> Result<&[u8], Fault>
     requires { ⌜ at ≤ length (now input) ⌝ }
     ensures { λ r. ⌜ Cases r (λ b. (all-at (K·Kind .width) (K·Kind .unpacked) len (now (input .entry)) at ≡ Ok tt) × (now b ≡ take (len * K·Kind .width) (drop at (now (input .entry)))) × (at + len * K·Kind .width ≤ length (now (input .entry))) × (length (now b) ≡ len * K·Kind .width)) (λ e. all-at (K·Kind .width) (K·Kind .unpacked) len (now (input .entry)) at ≡ Err e) ⌝ }
 {

@@ -37,7 +37,8 @@ impl Record<'_> {
         }
     }
 
-    /// The edit at the place `i` of those that the record stands for, counted from 0.
+    /// The edit at the place `i` of those that the record stands for, counted from 0. A place behind the last, and a
+    /// record that was not read as one of this kind, are the caller's fault.
     pub fn edit<K: Kind>(&self, i: usize) -> Result<Edit<K>, Fault>
         ensures { λ r. ⌜ Cases r (λ e. edit-at (K·Kind .width) (K·Kind .unpacked) (raw (now (self .entry))) i ≡ Some (plain e)) (λ f. (f ≡ OutsideLimits) × (Kept (K·Kind .width) (now (self .entry)) → edit-at (K·Kind .width) (K·Kind .unpacked) (raw (now (self .entry))) i ≡ None)) ⌝ }
     {

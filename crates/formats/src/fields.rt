@@ -21,7 +21,7 @@ use edits::Stamp;
 use edits::own_kept;
 use edits::parent_kept;
 
-pub fn byte_at(input: &[u8], at: usize) -> Result<u8, Fault>
+pub(crate) fn byte_at(input: &[u8], at: usize) -> Result<u8, Fault>
     ensures { λ r. ⌜ r ≡ byte-at (now (input .entry)) at ⌝ }
 {
     if at < input.len() {
@@ -32,7 +32,7 @@ pub fn byte_at(input: &[u8], at: usize) -> Result<u8, Fault>
 }
 
 /// A number of two bytes, the higher first.
-pub fn two_at(input: &[u8], at: usize) -> Result<u16, Fault>
+pub(crate) fn two_at(input: &[u8], at: usize) -> Result<u16, Fault>
     ensures { λ r. ⌜ r ≡ two-at (now (input .entry)) at ⌝ }
 {
     let high = byte_at(input, at)?;
@@ -102,7 +102,7 @@ fn place_at(input: &[u8], at: usize, clock: &Clock) -> Result<(Parent, Side), Fa
 }
 
 /// Head, parent and side of an insertion or of a run's first.
-pub fn placement_at(input: &[u8], at: usize) -> Result<Placement, Fault>
+pub(crate) fn placement_at(input: &[u8], at: usize) -> Result<Placement, Fault>
     ensures { λ r. ⌜ Cases r (λ x. (placement-at (now (input .entry)) at ≡ Ok (placement-parts x)) × (at + 8 + 3 * length (pairs-of (x .stamp .clock)) ≤ length (now (input .entry)))) (λ e. placement-at (now (input .entry)) at ≡ Err e) ⌝ }
 {
     let stamp = stamp_at(input, at)?;
@@ -115,7 +115,7 @@ pub fn placement_at(input: &[u8], at: usize) -> Result<Placement, Fault>
 }
 
 /// Head and target of a deletion.
-pub fn removal_at(input: &[u8], at: usize) -> Result<Removal, Fault>
+pub(crate) fn removal_at(input: &[u8], at: usize) -> Result<Removal, Fault>
     ensures { λ r. ⌜ Cases r (λ x. (removal-at (now (input .entry)) at ≡ Ok (removal-parts x)) × (at + 7 + 3 * length (pairs-of (x .stamp .clock)) ≤ length (now (input .entry)))) (λ e. removal-at (now (input .entry)) at ≡ Err e) ⌝ }
 {
     let stamp = stamp_at(input, at)?;

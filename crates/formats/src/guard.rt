@@ -3,10 +3,10 @@ ghost use mathlib.Core.Path.{_≡_};
 ghost use mathlib.Core.Bool.{cond};
 
 /// Holds the caller's offset while a record is read. Unless the record was accepted, the offset goes back to the mark.
-pub struct Guard<'a> {
-    pub at: &'a mut usize,
-    pub mark: usize,
-    pub accepted: bool,
+pub(crate) struct Guard<'a> {
+    pub(crate) at: &'a mut usize,
+    pub(crate) mark: usize,
+    pub(crate) accepted: bool,
 }
 
 impl Drop for Guard<'_> {

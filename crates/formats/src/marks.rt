@@ -4,19 +4,19 @@ ghost use Rattle.formats.specs.Marks.{has-runs, head-at};
 use crate::format::Format;
 
 /// Stands before an insertion.
-pub const INSERTION: &[u8; 2] = b"IN";
+pub(crate) const INSERTION: &[u8; 2] = b"IN";
 
 /// Stands before a deletion.
-pub const DELETION: &[u8; 2] = b"DE";
+pub(crate) const DELETION: &[u8; 2] = b"DE";
 
 /// Stands before a run, in format 7.
-pub const RUN: &[u8; 2] = b"RU";
+pub(crate) const RUN: &[u8; 2] = b"RU";
 
 /// Begins a log in format 6.
-pub const LOG_SIX: &[u8; 2] = b"L6";
+pub(crate) const LOG_SIX: &[u8; 2] = b"L6";
 
 /// Begins a log in format 7.
-pub const LOG_SEVEN: &[u8; 2] = b"L7";
+pub(crate) const LOG_SEVEN: &[u8; 2] = b"L7";
 
 impl Format {
     /// Whether the format has records that stand for several insertions.

@@ -1,10 +1,10 @@
 //! Whole records.
 ghost use mathlib.Core.Path.{_≡_};
 ghost use Prim.Native.Nat.{_+_, _<_, _≤_};
-ghost use lib.ListN.{length};
+ghost use lib.ListN.{length, getD};
 ghost use Rattle.std.specs.Results.{Cases};
 ghost use Rattle.std.specs.declared.result.Result.the-variants.{Ok, Err};
-ghost use Rattle.formats.specs.Records.{length-at, insertion-at, deletion-at, run-at, record-at};
+ghost use Rattle.formats.specs.Records.{length-at, insertion-at, deletion-at, run-at, fields-at, record-at};
 ghost use Rattle.formats.specs.Expanded.{Whole};
 ghost use Rattle.formats.specs.Kept.{raw, Kept};
 use crate::clock::head_len;
@@ -23,6 +23,7 @@ use edits::Fault;
 use edits::Id;
 use elements::Kind;
 
+/// An insertion, from behind its mark, and the offset behind it.
 fn insertion_at<K: Kind>(input: &[u8], at: usize) -> Result<(Record<'_>, usize), Fault>
     ensures { λ r. ⌜ Cases r (λ x. (insertion-at (K·Kind .width) (K·Kind .unpacked) (now (input .entry)) at ≡ Ok (raw (x .0), x .1)) × Kept (K·Kind .width) (x .0) × (at < x .1) × (x .1 ≤ length (now (input .entry)))) (λ e. insertion-at (K·Kind .width) (K·Kind .unpacked) (now (input .entry)) at ≡ Err e) ⌝ }
 {
@@ -42,6 +43,7 @@ fn insertion_at<K: Kind>(input: &[u8], at: usize) -> Result<(Record<'_>, usize),
     ))
 }
 
+/// A deletion, likewise.
 fn deletion_at<K: Kind>(input: &[u8], at: usize) -> Result<(Record<'_>, usize), Fault>
     ensures { λ r. ⌜ Cases r (λ x. (deletion-at (now (input .entry)) at ≡ Ok (raw (x .0), x .1)) × Kept (K·Kind .width) (x .0) × (at < x .1) × (x .1 ≤ length (now (input .entry)))) (λ e. deletion-at (now (input .entry)) at ≡ Err e) ⌝ }
 {
@@ -72,6 +74,7 @@ fn length_at(id: Id, input: &[u8], at: usize) -> Result<u8, Fault>
     Ok(len)
 }
 
+/// A run, likewise.
 fn run_at<K: Kind>(input: &[u8], at: usize) -> Result<(Record<'_>, usize), Fault>
     ensures { λ r. ⌜ Cases r (λ x. (run-at (K·Kind .width) (K·Kind .unpacked) (now (input .entry)) at ≡ Ok (raw (x .0), x .1)) × Kept (K·Kind .width) (x .0) × (at < x .1) × (x .1 ≤ length (now (input .entry)))) (λ e. run-at (K·Kind .width) (K·Kind .unpacked) (now (input .entry)) at ≡ Err e) ⌝ }
 {
@@ -94,16 +97,21 @@ fn run_at<K: Kind>(input: &[u8], at: usize) -> Result<(Record<'_>, usize), Fault
     ))
 }
 
-/// The record at the offset, and the offset behind it.
-fn record_at<K: Kind>(format: Format, input: &[u8], at: usize) -> Result<(Record<'_>, usize), Fault>
-    ensures { λ r. ⌜ Cases r (λ x. (record-at (K·Kind .width) (K·Kind .unpacked) format (now (input .entry)) at ≡ Ok (raw (x .0), x .1)) × Kept (K·Kind .width) (x .0) × (at < x .1) × (x .1 ≤ length (now (input .entry)))) (λ e. record-at (K·Kind .width) (K·Kind .unpacked) format (now (input .entry)) at ≡ Err e) ⌝ }
+/// The record with the mark, whose fields begin at the offset, and the offset behind it.
+fn fields_at<K: Kind>(
+    format: Format,
+    bytes: [u8; 2],
+    input: &[u8],
+    mark: usize,
+    at: usize,
+) -> Result<(Record<'_>, usize), Fault>
+    ensures { λ r. ⌜ Cases r (λ x. (fields-at (K·Kind .width) (K·Kind .unpacked) format (getD bytes 0 0) (getD bytes 1 0) mark (now (input .entry)) at ≡ Ok (raw (x .0), x .1)) × Kept (K·Kind .width) (x .0) × (at < x .1) × (x .1 ≤ length (now (input .entry)))) (λ e. fields-at (K·Kind .width) (K·Kind .unpacked) format (getD bytes 0 0) (getD bytes 1 0) mark (now (input .entry)) at ≡ Err e) ⌝ }
 {
-    let mark = [byte_at(input, at)?, byte_at(input, at + 1)?];
-    match &mark {
-        INSERTION => insertion_at::<K>(input, at + 2),
-        DELETION => deletion_at::<K>(input, at + 2),
-        RUN if format.has_runs() => run_at::<K>(input, at + 2),
-        _ => Err(Fault::Mark(at)),
+    match &bytes {
+        INSERTION => insertion_at::<K>(input, at),
+        DELETION => deletion_at::<K>(input, at),
+        RUN if format.has_runs() => run_at::<K>(input, at),
+        _ => Err(Fault::Mark(mark)),
     }
 }
 
@@ -121,7 +129,9 @@ pub fn read_record<'a, K: Kind>(
         mark,
         accepted: false,
     };
-    let (record, end) = record_at::<K>(format, input, *guard.at)?;
+    let bytes = [byte_at(input, *guard.at)?, byte_at(input, *guard.at + 1)?];
+    *guard.at += 2;
+    let (record, end) = fields_at::<K>(format, bytes, input, mark, *guard.at)?;
     *guard.at = end;
     guard.accepted = true;
     Ok(record)

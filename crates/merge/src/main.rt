@@ -18,6 +18,7 @@ fn main(rt: LibcRuntime) -> Result<(), AnyError> {
         }
         Err(fault) => {
             rt.print(fault.line(heap)?)?;
+            // Ends the program with status 1; the text is not printed.
             Err("the input was refused".into())
         }
     }

@@ -67,7 +67,9 @@ impl<K: Kind, S: State> Merge<K, S> {
     }
 
     /// Takes in the edits of a record in turn.
-    fn take_in_record(&mut self, record: &Record<'_>) -> Result<(), Fault> {
+    fn take_in_record(&mut self, record: &Record<'_>) -> Result<(), Fault>
+        ensures { λ _. ⌜ now (self .exit) .replica .tree .slots ≡ now (self .entry) .replica .tree .slots ⌝ }
+    {
         for i in 0..record.len() {
             let edit = record.edit::<K>(i)?;
             self.replica.take_in(&edit)?;

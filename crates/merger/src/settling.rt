@@ -1,6 +1,6 @@
 //! Merges made, settled and opened again.
 ghost use mathlib.Core.Path.{_≡_};
-ghost use mathlib.Core.Bool.{cond, _&&_};
+ghost use mathlib.Core.Bool.{true, cond, _&&_};
 ghost use mathlib.Core.List.{[]};
 ghost use Prim.Native.Nat.{ℕ};
 ghost use Rattle.std.specs.Results.{Cases};
@@ -22,7 +22,7 @@ use tree::Reading;
 impl<K: Kind> Merge<K, Gathering> {
     /// A new merge, with memory for as many entries (1 to 65,536) and as many waiting edits (1 to 64) as asked for.
     pub fn new(heap: Global, slots: usize, room: usize) -> Result<Merge<K, Gathering>, Fault>
-        ensures { λ r. ⌜ Cases r (λ x. (entries-in (x .replica) ≡ 0) × (shelf-of (x .replica) ≡ []) × (roster-of (x .replica) ≡ []) × (x .replica .tree .slots ≡ slots) × (x .replica .shelf .room ≡ room)) (λ f. f ≡ cond (slots-allowed slots && room-allowed room) NoMemory OutsideLimits) ⌝ }
+        ensures { λ r. ⌜ Cases r (λ x. (entries-in (x .replica) ≡ 0) × (shelf-of (x .replica) ≡ []) × (roster-of (x .replica) ≡ []) × (x .replica .tree .slots ≡ slots) × (x .replica .shelf .room ≡ room) × ((slots-allowed slots && room-allowed room) ≡ true)) (λ f. f ≡ cond (slots-allowed slots && room-allowed room) NoMemory OutsideLimits) ⌝ }
     {
         let replica = Replica::new(heap, slots, room)?;
         let reading = Reading::new(heap, slots)?;
@@ -45,6 +45,7 @@ impl<K: Kind> Merge<K, Gathering> {
             mut reading,
             state: _,
         } = self;
+        // Never refused: the reading has memory for every slot.
         let _ = replica.read(&mut reading);
         Ok(Merge {
             replica,

@@ -129,8 +129,9 @@ fn write_entry<K: Kind>(heap: Global, entry: &Entry<K>, text: &mut Vec<u8>) -> R
 fn write_element<K: Kind>(element: &K, text: &mut Vec<u8>) -> Result<(), Fault>
     ensures { λ r. ⌜ Cases r (λ _. vec-items (now (text .exit)) ≡ vec-items (now (text .entry)) ++ hex-text (K·Kind .packed (now (element .entry)))) (λ f. f ≡ NoMemory) ⌝ }
 {
-    let mut longest = [0; 15];
-    let bytes = &mut longest[0..K::bytes()];
+    // No kind is wider.
+    let mut buffer = [0; 15];
+    let bytes = &mut buffer[0..K::bytes()];
     element.pack(bytes);
     write_digits(bytes, text)
 }

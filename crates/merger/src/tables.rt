@@ -21,10 +21,10 @@ use formats::head_at;
 use std::alloc::Global;
 
 /// How many entries the table of an input can have, tombstones counted.
-pub const SLOTS: usize = 1_024;
+const SLOTS: usize = 1_024;
 
 /// How many edits can wait at a time.
-pub const ROOM: usize = 64;
+const ROOM: usize = 64;
 
 /// The table of an input, as text. The first log says of which kind the elements are.
 pub fn merged(heap: Global, input: &[u8]) -> Result<Vec<u8>, Fault>

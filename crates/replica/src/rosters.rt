@@ -23,7 +23,7 @@ use std::alloc::Global;
 
 impl Roster {
     /// No editor, with memory for as many as there may be.
-    pub fn new(heap: Global) -> Result<Roster, Fault>
+    pub(crate) fn new(heap: Global) -> Result<Roster, Fault>
         ensures { λ r. ⌜ Cases r (λ x. vec-items (x .pairs) ≡ []) (λ f. f ≡ NoMemory) ⌝ }
     {
         Ok(Roster {
@@ -32,61 +32,62 @@ impl Roster {
     }
 
     /// The editors and their counts.
-    pub fn pairs(&self) -> &[Pair]
+    pub(crate) fn pairs(&self) -> &[Pair]
         ensures { λ r. ⌜ now r ≡ vec-items (now (self .entry) .pairs) ⌝ }
     {
         &self.pairs
     }
 
     /// How many edits of the editor were applied.
-    pub fn count(&self, editor: u8) -> u16
+    pub(crate) fn count(&self, editor: u8) -> u16
         ensures { λ r. ⌜ r ≡ count-of (vec-items (now (self .entry) .pairs)) editor ⌝ }
     {
         count_among(self.pairs(), editor)
     }
 
     /// Whether the edit was applied.
-    pub fn covers(&self, id: Id) -> bool
+    pub(crate) fn covers(&self, id: Id) -> bool
         ensures { λ r. ⌜ r ≡ leb (id .number) (count-of (vec-items (now (self .entry) .pairs)) (id .editor)) ⌝ }
     {
         id.number <= self.count(id.editor)
     }
 
     /// Whether everything that the clock counts was applied.
-    pub fn includes(&self, clock: &Clock) -> bool
+    pub(crate) fn includes(&self, clock: &Clock) -> bool
         ensures { λ r. ⌜ r ≡ includes (vec-items (now (self .entry) .pairs)) (pairs-of (now (clock .entry))) ⌝ }
     {
         includes_all(self.pairs(), clock.listed())
     }
 
     /// Whether the editor is listed.
-    pub fn lists(&self, editor: u8) -> bool
+    pub(crate) fn lists(&self, editor: u8) -> bool
         ensures { λ r. ⌜ r ≡ lists (vec-items (now (self .entry) .pairs)) editor ⌝ }
     {
         lists_editor(self.pairs(), editor)
     }
 
     /// Whether no further editor can be listed.
-    pub fn is_full(&self) -> bool
+    pub(crate) fn is_full(&self) -> bool
         ensures { λ r. ⌜ r ≡ leb 16 (vec-len (now (self .entry) .pairs)) ⌝ }
     {
         self.pairs.len() >= MOST_EDITORS
     }
 
     /// Lists the editor, unless it is listed.
-    pub fn admit(&mut self, editor: u8)
+    pub(crate) fn admit(&mut self, editor: u8)
         requires { ⌜ (lists (vec-items (now self .pairs)) editor ≡ false → vec-len (now self .pairs) < 16) ⌝ }
         ensures { λ _. ⌜ vec-items (now (self .exit) .pairs) ≡ admitted editor (vec-items (now (self .entry) .pairs)) ⌝ }
     {
         if !self.lists(editor) {
             let place = place_among(self.pairs(), editor);
             let pair = Pair { editor, count: 0 };
+            // Never refused: there is memory for every editor.
             let _ = self.pairs.insert(place, pair);
         }
     }
 
     /// Counts an edit of a listed editor.
-    pub fn advance(&mut self, id: Id)
+    pub(crate) fn advance(&mut self, id: Id)
         ensures { λ _. ⌜ vec-items (now (self .exit) .pairs) ≡ advanced id (vec-items (now (self .entry) .pairs)) ⌝ }
     {
         for pair in self.pairs.iter_mut() {

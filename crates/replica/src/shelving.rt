@@ -25,7 +25,7 @@ use std::alloc::Global;
 
 impl<E: Copy> Shelf<E> {
     /// An empty shelf with memory for as many edits as asked for.
-    pub fn new(heap: Global, room: usize) -> Result<Shelf<E>, Fault>
+    pub(crate) fn new(heap: Global, room: usize) -> Result<Shelf<E>, Fault>
         ensures { λ r. ⌜ Cases r (λ x. (x .room ≡ room) × (vec-items (x .edits) ≡ []) × (room-allowed room ≡ true)) (λ f. f ≡ cond (room-allowed room) NoMemory OutsideLimits) ⌝ }
     {
         if room < 1 || room > MOST_WAITING {
@@ -38,27 +38,28 @@ impl<E: Copy> Shelf<E> {
     }
 
     /// Whether an edit with the identifier waits.
-    pub fn holds(&self, id: Id) -> bool
+    pub(crate) fn holds(&self, id: Id) -> bool
         ensures { λ r. ⌜ r ≡ waits id (vec-items (now (self .entry) .edits)) ⌝ }
     {
         waits_among(&self.edits, id)
     }
 
     /// How many of the edits are insertions.
-    pub fn insertions(&self) -> usize
+    pub(crate) fn insertions(&self) -> usize
         ensures { λ r. ⌜ r ≡ insertions (vec-items (now (self .entry) .edits)) ⌝ }
     {
         insertions_among(&self.edits)
     }
 
-    pub fn is_full(&self) -> bool
+    /// Whether no further edit can wait.
+    pub(crate) fn is_full(&self) -> bool
         ensures { λ r. ⌜ r ≡ leb (now (self .entry) .room) (vec-len (now (self .entry) .edits)) ⌝ }
     {
         self.edits.len() >= self.room
     }
 
     /// Puts an edit behind the others.
-    pub fn put(&mut self, edit: Edit<E>)
+    pub(crate) fn put(&mut self, edit: Edit<E>)
         requires { ⌜ vec-len (now self .edits) < now self .room ⌝ }
         ensures items { λ _. ⌜ vec-items (now (self .exit) .edits) ≡ vec-items (now (self .entry) .edits) ++ (edit ∷ []) ⌝ }
         ensures insertions { λ _. ⌜ insertions (vec-items (now (self .exit) .edits)) ≡ insertions (vec-items (now (self .entry) .edits)) + one-if (is-insertion edit) ⌝ }
@@ -68,7 +69,7 @@ impl<E: Copy> Shelf<E> {
     }
 
     /// Takes the first edit that is ready off the shelf.
-    pub fn take_ready(&mut self, roster: &Roster) -> Option<Edit<E>>
+    pub(crate) fn take_ready(&mut self, roster: &Roster) -> Option<Edit<E>>
         ensures taken { λ r. ⌜ BySome r ((before-ready (vec-items (now (roster .entry) .pairs)) (vec-items (now (self .entry) .edits)) ≡ vec-len (now (self .entry) .edits)) × (vec-items (now (self .exit) .edits) ≡ vec-items (now (self .entry) .edits))) (λ e. (e ≡ getD (vec-items (now (self .entry) .edits)) (before-ready (vec-items (now (roster .entry) .pairs)) (vec-items (now (self .entry) .edits))) e) × (vec-items (now (self .exit) .edits) ≡ removed (vec-items (now (self .entry) .edits)) (before-ready (vec-items (now (roster .entry) .pairs)) (vec-items (now (self .entry) .edits))))) ⌝ }
         ensures insertions { λ r. ⌜ BySome r (Unit {0}) (λ e. insertions (vec-items (now (self .exit) .edits)) + one-if (is-insertion e) ≡ insertions (vec-items (now (self .entry) .edits))) ⌝ }
         ensures falls { λ r. ⌜ BySome r (Unit {0}) (λ _. vec-len (now (self .exit) .edits) + 1 ≡ vec-len (now (self .entry) .edits)) ⌝ }
@@ -83,7 +84,7 @@ impl<E: Copy> Shelf<E> {
     }
 
     /// The lowest identifier that waits.
-    pub fn lowest(&self) -> Option<Id>
+    pub(crate) fn lowest(&self) -> Option<Id>
         ensures { λ r. ⌜ r ≡ lowest-from None (vec-items (now (self .entry) .edits)) ⌝ }
     {
         lowest_among(&self.edits)

@@ -48,6 +48,7 @@ impl Index {
         ensures len { λ _. ⌜ vec-len (now (self .exit) .ids) ≤ vec-len (now (self .entry) .ids) + 1 ⌝ }
     {
         if let Err(i) = self.ids.binary_search(&id) {
+            // Never refused: there is memory for every slot.
             let _ = self.ids.insert(i, id);
             let _ = self.slots.insert(i, slot);
         }

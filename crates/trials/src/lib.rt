@@ -1,7 +1,10 @@
 //! Trials of the merge on inputs that were worked out from the rules.
 #[cfg(test)]
 mod cases;
+#[cfg(test)]
 mod logs;
+#[cfg(test)]
+mod states;
 
 use merger::merged;
 use std::alloc::AllocError;
@@ -18,9 +21,13 @@ pub(crate) struct Case {
 impl Case {
     /// Whether the program prints what it should.
     fn passes(&self, heap: Global) -> Result<bool, AllocError> {
-        let input = bytes_of(heap, self.input)?;
-        let printed = printed(heap, &input)?;
-        Ok(printed.as_slice() == self.prints.as_bytes())
+        match bytes_of(heap, self.input)? {
+            Some(input) => {
+                let printed = printed(heap, &input)?;
+                Ok(printed.as_slice() == self.prints.as_bytes())
+            }
+            None => Ok(false),
+        }
     }
 }
 
@@ -35,13 +42,17 @@ fn printed(heap: Global, input: &[u8]) -> Result<Vec<u8>, AllocError> {
     }
 }
 
-/// The bytes that a text of digits stands for; what is no digit parts them and stands for nothing.
-fn bytes_of(heap: Global, text: &str) -> Result<Vec<u8>, AllocError> {
+/// The bytes that a text of digits stands for. Blanks and bars between the digits stand for nothing; any other text is
+/// none.
+fn bytes_of(heap: Global, text: &str) -> Result<Option<Vec<u8>>, AllocError> {
     let mut bytes = Vec::new(heap);
     let mut high = None;
     for c in text.as_bytes() {
-        let Some(digit) = digit_of(*c) else {
+        if *c == b' ' || *c == b'|' {
             continue;
+        }
+        let Some(digit) = digit_of(*c) else {
+            return Ok(None);
         };
         match high {
             None => high = Some(digit),
@@ -51,7 +62,10 @@ fn bytes_of(heap: Global, text: &str) -> Result<Vec<u8>, AllocError> {
             }
         }
     }
-    Ok(bytes)
+    match high {
+        None => Ok(Some(bytes)),
+        Some(_) => Ok(None),
+    }
 }
 
 fn digit_of(c: u8) -> Option<u8> {

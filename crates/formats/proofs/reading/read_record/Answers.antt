@@ -1,8 +1,15 @@
 use borrow.Author.Needs.{needs}
+use mathlib.Core.Path.{_≡_}
+use Rattle.std.specs.declared.result.Result.the-variants.{Ok}
+use Rattle.formats.specs.Kept.{raw}
+use Rattle.formats.specs.Records.{record-at}
 use Rattle.formats.proofs.Whole.{record-whole}
 use Rattle.formats.proofs.reading.read_record.Needs as need
 
 pub returns : need.returns
 returns g c =
-    let whole = record-whole (g .K·Kind .width) (g .K·Kind .unpacked) (c .args .format) (c .args .input .now) (c .args .at .now) _ _ (c .in-Continue-record .ensures tt .0) in
-    (search needs, search needs, search needs, search needs, whole)
+    let width = g .K·Kind .width in
+    let unpacked = g .K·Kind .unpacked in
+    let input = c .args .input .now in
+    let reads : record-at width unpacked (c .args .format) input (c .args .at .now) ≡ Ok (raw (c .in-Continue-record .record), c .in-Continue-record .end) = search needs in
+    (search needs, search needs, search needs, search needs, record-whole width unpacked (c .args .format) input (c .args .at .now) _ _ reads)
