@@ -23,6 +23,7 @@ impl<K: Kind, S: State> Merge<K, S> {
     /// Takes in logs that stand end to end. Where one is refused, the edits before the spot stay.
     pub fn gather(&mut self, input: &[u8]) -> Result<(), Fault>
         requires { ⌜ S·State .settled ≡ false ⌝ }
+        ensures slots { λ _. ⌜ now (self .exit) .replica .tree .slots ≡ now (self .entry) .replica .tree .slots ⌝ }
         ensures long { λ r. ⌜ (65536 < length (now (input .entry)) → (r ≡ Err WrongSize) × (now (self .exit) ≡ now (self .entry))) ⌝ }
         ensures empty { λ r. ⌜ (length (now (input .entry)) ≡ 0 → (r ≡ Ok tt) × (now (self .exit) ≡ now (self .entry))) ⌝ }
     {
@@ -34,7 +35,8 @@ impl<K: Kind, S: State> Merge<K, S> {
 
     /// Takes in logs that stand end to end, however long.
     fn gather_all(&mut self, input: &[u8]) -> Result<(), Fault>
-        ensures { λ r. ⌜ (length (now (input .entry)) ≡ 0 → (r ≡ Ok tt) × (now (self .exit) ≡ now (self .entry))) ⌝ }
+        ensures slots { λ _. ⌜ now (self .exit) .replica .tree .slots ≡ now (self .entry) .replica .tree .slots ⌝ }
+        ensures empty { λ r. ⌜ (length (now (input .entry)) ≡ 0 → (r ≡ Ok tt) × (now (self .exit) ≡ now (self .entry))) ⌝ }
     {
         let mut format = None;
         let mut at = 0;
@@ -52,7 +54,8 @@ impl<K: Kind, S: State> Merge<K, S> {
         input: &[u8],
         at: &mut usize,
     ) -> Result<Format, Fault>
-        ensures { λ r. ⌜ Cases r (λ _. (now (at .entry) < now (at .exit)) × (now (at .exit) ≤ length (now (input .entry)))) (λ _. Unit {0}) ⌝ }
+        ensures slots { λ _. ⌜ now (self .exit) .replica .tree .slots ≡ now (self .entry) .replica .tree .slots ⌝ }
+        ensures moves { λ r. ⌜ Cases r (λ _. (now (at .entry) < now (at .exit)) × (now (at .exit) ≤ length (now (input .entry)))) (λ _. Unit {0}) ⌝ }
     {
         if let Some(next) = head_at(input, *at) {
             *at = behind_head::<K>(input, *at)?;

@@ -5,12 +5,17 @@ ghost use Prim.Native.Nat.{_≤_};
 ghost use lib.Dec.{eqb, ltb};
 ghost use lib.ListN.{length, getD};
 ghost use Rattle.std.specs.Options.{isSome};
+ghost use Rattle.std.specs.Vec.{made};
+ghost use Rattle.std.specs.declared.option.Option.the-variants.{None};
+ghost use Rattle.replica.specs.Shelves.{lowest-from};
+ghost use Rattle.replica.specs.Taking.{shelf-of};
 ghost use Rattle.formats.specs.Marks.{head-at};
 ghost use Rattle.merger.specs.Tables.{Ends};
 use crate::gathering::LONGEST_INPUT;
 use crate::merge::Gathering;
 use crate::merge::GatheringState;
 use crate::merge::Merge;
+use crate::merge::Settled;
 use crate::merge::SettledState;
 use edits::Fault;
 use elements::Cell;
@@ -52,10 +57,18 @@ fn table_of<K: Kind>(heap: Global, input: &[u8]) -> Result<Vec<u8>, Fault>
     requires { ⌜ length (now input) ≤ 65536 ⌝ }
     ensures { λ r. ⌜ Ends (now (input .entry)) r ⌝ }
 {
+    let settled = settled_of::<K>(heap, input)?;
+    settled.show(heap)
+}
+
+/// The settled merge of an input with elements of the kind.
+fn settled_of<K: Kind>(heap: Global, input: &[u8]) -> Result<Merge<K, Settled>, Fault>
+    ensures { λ r. ⌜ made r (λ x. (x .replica .tree .slots ≡ 1024) × (lowest-from None (shelf-of (x .replica)) ≡ None)) ⌝ }
+{
     let mut merge = Merge::<K, Gathering>::new(heap, SLOTS, ROOM)?;
     merge.gather(input)?;
     match merge.settle() {
-        Ok(settled) => settled.show(heap),
+        Ok(settled) => Ok(settled),
         Err((_, fault)) => Err(fault),
     }
 }
