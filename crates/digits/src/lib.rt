@@ -1,4 +1,6 @@
 //! Bytes as two upper-case hexadecimal digits.
+#![tactic(auto)]
+
 ghost use Rattle.std.specs.Prelude.{◌≡◌};
 ghost use Rattle.digits.specs.Hex.{hex_pair};
 

@@ -1,4 +1,6 @@
 //! Edits: what names them, the clocks that they carry, the rules that they keep; and the one fault type of all layers.
+#![tactic(auto)]
+
 mod clock;
 mod clocks;
 mod edit;

@@ -1,4 +1,5 @@
 //! Formats: the records of edits, read from bytes.
+#![tactic(auto)]
 mod clock;
 mod element;
 mod expanding;

@@ -1,4 +1,5 @@
 //! Logs merged into one table.
+#![tactic(auto)]
 mod gathering;
 mod merge;
 mod settling;

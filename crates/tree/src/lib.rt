@@ -1,4 +1,5 @@
 //! The document in memory: a Fugue tree as linked nodes in one `Vec`, listed in reading order.
+#![tactic(auto)]
 mod asking;
 mod growing;
 mod index;
