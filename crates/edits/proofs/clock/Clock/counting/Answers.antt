@@ -45,8 +45,8 @@ returns c =
     let f = c.all-all.ensures.full in
     let p = c.place-place.ensures.value in
     let l = ap length c.listed-len.ensures in
-    let m : c.copy-from-slice.new.self ≡ take (n - k) (drop k x.pairs) = c.copy-from-slice.ensures.after ∙ ap (λ (a : List Pair). take (n - k) (drop k a)) (sym same) in
+    let m : c.copy_from_slice.new.self ≡ take (n - k) (drop k x.pairs) = c.copy_from_slice.ensures.after ∙ ap (λ (a : List Pair). take (n - k) (drop k a)) (sym same) in
     record {
-      value = moved_pairs x e c.args.id.number k f p n l le other c.copy-from-slice.new.self c.if-len-ge16.false m;
-      kept = moved_kept x e c.args.id.number k f p n l le other c.copy-from-slice.new.self c.if-len-ge16.false m;
+      value = moved_pairs x e c.args.id.number k f p n l le other c.copy_from_slice.new.self c.if-len-ge16.false m;
+      kept = moved_kept x e c.args.id.number k f p n l le other c.copy_from_slice.new.self c.if-len-ge16.false m;
     }

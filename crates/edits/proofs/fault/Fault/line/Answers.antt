@@ -6,6 +6,6 @@ pub returns : goal.returns
 returns c =
     let number = c.number-number.ensures in
     let layer = c.word-layer.ensures ∙ ap word_of c.layer.ensures in
-    let spot = c.as-str.ensures.value ∙ c.in-ok-spot.ensures ∙ ap spot_text c.spot.ensures in
-    let same : line_text c.number-number.result c.word-layer.result.now c.as-str.result.now ≡ fault_line c.args.self = cc in
-    subst (λ (t : List ℕ). IfOk c.line-of.result (λ s. string_bytes s ≡ t)) same c.line-of.ensures
+    let spot = c.as_str.ensures.value ∙ c.in_ok-spot.ensures ∙ ap spot_text c.spot.ensures in
+    let same : line_text c.number-number.result c.word-layer.result.now c.as_str.result.now ≡ fault_line c.args.self = cc in
+    subst (λ (t : List ℕ). IfOk c.line_of.result (λ s. string_bytes s ≡ t)) same c.line_of.ensures
