@@ -1,5 +1,6 @@
 //! Elements: what a document is a list of, and the bytes that stand for one.
 #![tactic(auto)]
+
 mod cell;
 mod cell_kind;
 mod character;

@@ -1,5 +1,5 @@
 use Rattle.elements.specs.CellBytes.{not_nan}
 use Rattle.elements.proofs.floats.bits.Goals as goal
 
-pub float-to-bits-result : goal.float-to-bits-result
-float-to-bits-result c = not_nan c.args.x c.requires
+pub float_to_bits-result : goal.float_to_bits-result
+float_to_bits-result c = not_nan c.args.x c.requires
