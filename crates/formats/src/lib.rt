@@ -1,5 +1,6 @@
 //! Formats: the records of edits, read from bytes.
 #![tactic(auto)]
+
 mod clock;
 mod element;
 mod expanding;

@@ -10,12 +10,12 @@ loop-init g c =
     let z : c.args.len - 0 ≡ c.args.len = omega arith in
     (omega arith, c.requires, ap (λ (n : ℕ). all_at g.K.Kind.width g.K.Kind.unpacked n c.args.input.now c.args.at) (sym z))
 
-pub returns-in-err-element-at : goal.returns-in-err-element-at
-returns-in-err-element-at g c =
+pub returns-in_err-element_at : goal.returns-in_err-element_at
+returns-in_err-element_at g c =
     let p = err_from_is_err_and c.from-residual.result c.from-residual.ensures.1 in
     let lt : c.loop.counter < c.args.len = search rules in
     rw (p.1, p.2)
-    (c.loop.invariant.2 ∙ all_fails g.K.Kind.width g.K.Kind.unpacked c.args.input.now c.args.len c.loop.counter c.loop.end lt c.in-err-element-at.field-0.0 c.in-err-element-at.ensures)
+    (c.loop.invariant.2 ∙ all_fails g.K.Kind.width g.K.Kind.unpacked c.args.input.now c.args.len c.loop.counter c.loop.end lt c.in_err-element_at.field-0.0 c.in_err-element_at.ensures)
 
 pub loop-preserved : goal.loop-preserved
 loop-preserved g c =
@@ -24,7 +24,7 @@ loop-preserved g c =
     let i = c.loop.counter in
     let lt : i < c.args.len = search rules in
     let step : (i + 1) * w ≡ i * w + w = ap (λ (n : ℕ). n * w) (add-one i) ∙ suc-mul i w in
-    let fit = c.in-ok-element-at.ensures in
+    let fit = c.in_ok-element_at.ensures in
     let we : c.bytes-end.result ≡ w = c.bytes-end.ensures in (
       omega (arith, c.loop.invariant.0, we, step),
       omega (arith, fit.1, we),
@@ -32,14 +32,14 @@ loop-preserved g c =
           ∙ ap (λ (n : ℕ). all_at w u (c.args.len - (i + 1)) c.args.input.now (c.loop.end + n)) (sym we),
     )
 
-pub slice-bounds-result-count : goal.slice-bounds-result-count
-slice-bounds-result-count g c = search rules
+pub slice_bounds-result-count : goal.slice_bounds-result-count
+slice_bounds-result-count g c = search rules
 
-pub slice-bounds-result-start : goal.slice-bounds-result-start
-slice-bounds-result-start g c = search rules
+pub slice_bounds-result-start : goal.slice_bounds-result-start
+slice_bounds-result-start g c = search rules
 
-pub slice-bounds-result-end : goal.slice-bounds-result-end
-slice-bounds-result-end g c = search rules
+pub slice_bounds-result-end : goal.slice_bounds-result-end
+slice_bounds-result-end g c = search rules
 
 pub returns : goal.returns
 returns g c =

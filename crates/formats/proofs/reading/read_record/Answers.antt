@@ -9,5 +9,5 @@ returns g c =
     let width = g.K.Kind.width in
     let unpacked = g.K.Kind.unpacked in
     let input = c.args.input.now in
-    let reads : record_at width unpacked c.args.format input c.args.at.now ≡ Ok (raw c.in-ok-record.record, c.in-ok-record.end) = search rules in
+    let reads : record_at width unpacked c.args.format input c.args.at.now ≡ Ok (raw c.in_ok-record.record, c.in_ok-record.end) = search rules in
     (search rules, search rules, search rules, search rules, record_whole width unpacked c.args.format input c.args.at.now _ _ reads)

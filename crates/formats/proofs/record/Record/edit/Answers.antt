@@ -5,10 +5,10 @@ use Rattle.formats.specs.Expanded.{length_of}
 use Rattle.formats.specs.Kept.{raw, Kept}
 use Rattle.formats.proofs.record.Record.edit.Goals as goal
 
-pub returns-in-err-element : goal.returns-in-err-element
-returns-in-err-element g c =
+pub returns-in_err-element : goal.returns-in_err-element
+returns-in_err-element g c =
     let p = err_from_is_err_and c.from-residual.result c.from-residual.ensures.1 in
-    let h = c.in-err-element.ensures in
+    let h = c.in_err-element.ensures in
     let w = g.K.Kind.width in
     let i = c.args.i in
     let m = c.in-Run.len in
