@@ -6,7 +6,7 @@ use Rattle.formats.proofs.clock.clock_at.Goals as goal
 
 pub returns-in_err-editor : goal.returns-in_err-editor
 returns-in_err-editor c =
-    let p = err_from_is_err_and c.from-residual-in_err-editor.result c.from-residual-in_err-editor.ensures.1 in
+    let p = err_from_is_err_and c.from_residual-in_err-editor.result c.from_residual-in_err-editor.ensures.1 in
     let lt : c.loop-i.i < c.in_ok-len.len = search rules in
     let small : c.in_ok-len.len ≤ 16 = search rules in
     let f = c.in_err-editor.field-0.0 in
@@ -16,7 +16,7 @@ returns-in_err-editor c =
 
 pub returns-in_err-count : goal.returns-in_err-count
 returns-in_err-count c =
-    let p = err_from_is_err_and c.from-residual-in_err-count.result c.from-residual-in_err-count.ensures.1 in
+    let p = err_from_is_err_and c.from_residual-in_err-count.result c.from_residual-in_err-count.ensures.1 in
     let lt : c.loop-i.i < c.in_ok-len.len = search rules in
     let small : c.in_ok-len.len ≤ 16 = search rules in
     let f = c.in_err-count.field-0.0 in

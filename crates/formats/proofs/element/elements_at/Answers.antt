@@ -12,7 +12,7 @@ loop-init g c =
 
 pub returns-in_err-element_at : goal.returns-in_err-element_at
 returns-in_err-element_at g c =
-    let p = err_from_is_err_and c.from-residual.result c.from-residual.ensures.1 in
+    let p = err_from_is_err_and c.from_residual.result c.from_residual.ensures.1 in
     let lt : c.loop.counter < c.args.len = search rules in
     rw (p.1, p.2)
     (c.loop.invariant.2 ∙ all_fails g.K.Kind.width g.K.Kind.unpacked c.args.input.now c.args.len c.loop.counter c.loop.end lt c.in_err-element_at.field-0.0 c.in_err-element_at.ensures)

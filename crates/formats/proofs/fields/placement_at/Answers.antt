@@ -6,7 +6,7 @@ use Rattle.formats.proofs.fields.placement_at.Goals as goal
 
 pub returns-in_err-parent : goal.returns-in_err-parent
 returns-in_err-parent c =
-    let p = err_from_is_err_and c.from-residual-in_err-parent.result c.from-residual-in_err-parent.ensures.1 in
+    let p = err_from_is_err_and c.from_residual-in_err-parent.result c.from_residual-in_err-parent.ensures.1 in
     let x = c.in_ok-stamp.stamp in
     rw (p.1, p.2)
     (place_fails c.args.input.now c.args.at (c.args.at + c.head_len.result) x.id (pairs_of x.clock) c.in_ok-stamp.ensures.0 (omega (arith, c.head_len.ensures.value))

@@ -6,7 +6,7 @@ use Rattle.formats.proofs.reading.run_at.Goals as goal
 
 pub returns-in_err-len : goal.returns-in_err-len
 returns-in_err-len g c =
-    let p = err_from_is_err_and c.from-residual-in_err-len.result c.from-residual-in_err-len.ensures.1 in
+    let p = err_from_is_err_and c.from_residual-in_err-len.result c.from_residual-in_err-len.ensures.1 in
     let o = c.args.at + c.head_len.result + 4 in
     rw (p.1, p.2)
     (run_length_fails g.K.Kind.width g.K.Kind.unpacked c.args.input.now c.args.at o (o + 1) (placement_parts c.in_ok-placement.placement) c.in_ok-placement.ensures.0
@@ -14,7 +14,7 @@ returns-in_err-len g c =
 
 pub returns-in_err-elements : goal.returns-in_err-elements
 returns-in_err-elements g c =
-    let p = err_from_is_err_and c.from-residual-in_err-elements.result c.from-residual-in_err-elements.ensures.1 in
+    let p = err_from_is_err_and c.from_residual-in_err-elements.result c.from_residual-in_err-elements.ensures.1 in
     let o = c.args.at + c.head_len.result + 4 in
     rw (p.1, p.2)
     (run_all_fails g.K.Kind.width g.K.Kind.unpacked c.args.input.now c.args.at o (o + 1) (placement_parts c.in_ok-placement.placement) c.in_ok-placement.ensures.0

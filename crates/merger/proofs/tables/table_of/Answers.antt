@@ -5,7 +5,7 @@ use Rattle.merger.proofs.tables.table_of.Goals as goal
 
 pub returns-in-err-settled : goal.returns-in-err-settled
 returns-in-err-settled g c =
-    let p = err_from_is_err_and c.from-residual.result c.from-residual.ensures.1 in
+    let p = err_from_is_err_and c.from_residual.result c.from_residual.ensures.1 in
     rw p.1 (λ long. absurd (omega (arith, long, c.requires)))
 
 pub returns : goal.returns

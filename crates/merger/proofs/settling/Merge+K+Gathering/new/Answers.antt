@@ -5,5 +5,5 @@ use Rattle.merger.proofs.settling.Merge+K+Gathering.new.Goals as goal
 
 pub returns-in-err-reading : goal.returns-in-err-reading
 returns-in-err-reading g c =
-    let p = err_from_is_err_and c.from-residual-in-err-reading.result c.from-residual-in-err-reading.ensures.1 in
+    let p = err_from_is_err_and c.from_residual-in-err-reading.result c.from_residual-in-err-reading.ensures.1 in
     rw (p.1, p.2) (c.in-err-reading.ensures ∙ sym (ap (λ (v : Bool). cond v NoMemory OutsideLimits) c.in-ok-replica.ensures.5))
