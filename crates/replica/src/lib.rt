@@ -1,5 +1,6 @@
 //! A replica: one copy of the document, with what it has applied and what waits.
 #![tactic(auto)]
+
 mod asking;
 mod replica;
 mod roster;

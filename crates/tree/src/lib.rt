@@ -1,5 +1,6 @@
 //! The document in memory: a Fugue tree as linked nodes in one `Vec`, listed in reading order.
 #![tactic(auto)]
+
 mod asking;
 mod growing;
 mod index;

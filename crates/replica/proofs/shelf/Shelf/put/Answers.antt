@@ -6,7 +6,7 @@ use Rattle.replica.proofs.shelf.Shelf.put.Goals as goal
 pub returns : goal.returns
 returns g c =
     record {
-      items = c.push-reserved.ensures.items;
-      insertions = ap insertions c.push-reserved.ensures.items ∙ insertions_push (vec_items c.args.self.now.edits) c.args.edit;
+      items = c.push_reserved.ensures.items;
+      insertions = ap insertions c.push_reserved.ensures.items ∙ insertions_push (vec_items c.args.self.now.edits) c.args.edit;
       room = refl;
     }

@@ -5,7 +5,7 @@ use Rattle.tree.proofs.tree.Tree.delete.Goals as goal
 
 pub returns : goal.returns
 returns g c =
-    let n = c.index-mut.result.now in
+    let n = c.index_mut.result.now in
     let hidden : Node g.row.E.Denot = record {
       entry = record { id = n.entry.id; element = n.entry.element; shown = false };
       parent = n.parent;
@@ -17,5 +17,5 @@ returns g c =
     record {
       slots = refl;
       len = refl;
-      entries = (c.in-Some.slot, c.in-Some.ensures.found, entries_hidden (vec_items c.args.self.now.nodes) c.in-Some.slot n hidden c.index-mut.ensures.value refl);
+      entries = (c.in-Some.slot, c.in-Some.ensures.found, entries_hidden (vec_items c.args.self.now.nodes) c.in-Some.slot n hidden c.index_mut.ensures.value refl);
     }

@@ -3,10 +3,10 @@ use Rattle.tree.proofs.Entries.{entries_kept}
 use Rattle.tree.proofs.tree.Tree.link.Goals as goal
 
 pub returns-then-slot-len : goal.returns-then-slot-len
-returns-then-slot-len g c = record { slots = refl; len = refl; entries = entries_kept _ _ _ _ c.index-mut.ensures.value refl }
+returns-then-slot-len g c = record { slots = refl; len = refl; entries = entries_kept _ _ _ _ c.index_mut.ensures.value refl }
 
 pub returns-in-Left : goal.returns-in-Left
-returns-in-Left g c = record { slots = refl; len = refl; entries = entries_kept _ _ _ _ c.index-mut-in-Left.ensures.value refl }
+returns-in-Left g c = record { slots = refl; len = refl; entries = entries_kept _ _ _ _ c.index_mut-in-Left.ensures.value refl }
 
 pub returns-in-Right : goal.returns-in-Right
-returns-in-Right g c = record { slots = refl; len = refl; entries = entries_kept _ _ _ _ c.index-mut-in-Right.ensures.value refl }
+returns-in-Right g c = record { slots = refl; len = refl; entries = entries_kept _ _ _ _ c.index_mut-in-Right.ensures.value refl }
