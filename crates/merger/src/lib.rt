@@ -1,5 +1,6 @@
 //! Logs merged into one table.
 #![tactic(auto)]
+
 mod gathering;
 mod merge;
 mod settling;

@@ -9,14 +9,14 @@ returns g c =
     let start = vec_items c.args.text.now in
     let id = c.args.entry.now.id in
     let digits = hex_text (g.K.Kind.packed c.args.entry.now.element) in
-    let named : vec_items c.extend-from-slice.new.self ≡ start ++ id_text id =
-    c.in-ok-extend-from-slice.ensures.items ∙ ap (λ (t : List ℕ). start ++ t) (c.as-bytes.ensures.value ∙ c.in-ok-id.ensures) in
-    let parted : vec_items c.extend-from-slice-2.new.self ≡ (start ++ id_text id) ++ codes " " =
-    c.in-ok-extend-from-slice-2.ensures.items ∙ ap (λ (t : List ℕ). t ++ codes " ") named in
-    let spelled : vec_items c.write-element.new.text ≡ ((start ++ id_text id) ++ codes " ") ++ digits =
-    c.in-ok-write-element.ensures ∙ ap (λ (t : List ℕ). t ++ digits) parted in
-    let ended : vec_items c.extend-from-slice-3.new.self ≡ (((start ++ id_text id) ++ codes " ") ++ digits) ++ codes "\n" =
-    c.in-ok-extend-from-slice-3.ensures.items ∙ ap (λ (t : List ℕ). t ++ codes "\n") spelled in
+    let named : vec_items c.extend_from_slice.new.self ≡ start ++ id_text id =
+    c.in_ok-extend_from_slice.ensures.items ∙ ap (λ (t : List ℕ). start ++ t) (c.as_bytes.ensures.value ∙ c.in_ok-id.ensures) in
+    let parted : vec_items c.extend_from_slice-2.new.self ≡ (start ++ id_text id) ++ codes " " =
+    c.in_ok-extend_from_slice-2.ensures.items ∙ ap (λ (t : List ℕ). t ++ codes " ") named in
+    let spelled : vec_items c.write_element.new.text ≡ ((start ++ id_text id) ++ codes " ") ++ digits =
+    c.in_ok-write_element.ensures ∙ ap (λ (t : List ℕ). t ++ digits) parted in
+    let ended : vec_items c.extend_from_slice-3.new.self ≡ (((start ++ id_text id) ++ codes " ") ++ digits) ++ codes "\n" =
+    c.in_ok-extend_from_slice-3.ensures.items ∙ ap (λ (t : List ℕ). t ++ codes "\n") spelled in
     let grouped : (((start ++ id_text id) ++ codes " ") ++ digits) ++ codes "\n" ≡ start ++ (id_text id ++ (codes " " ++ (digits ++ codes "\n"))) =
     append_assoc ((start ++ id_text id) ++ codes " ") digits (codes "\n") ∙ append_assoc (start ++ id_text id) (codes " ") (digits ++ codes "\n")
     ∙ append_assoc start (id_text id) (codes " " ++ (digits ++ codes "\n")) in

@@ -8,8 +8,8 @@ returns g c =
     let merge = c.args.self.now in
     let counts = counts_line merge.reading.shown (entries_in merge.replica - merge.reading.shown) in
     let clock = clock_line (roster_of merge.replica) in
-    let entries = c.in-ok-write-entries.ensures in (
+    let entries = c.in_ok-write_entries.ensures in (
       entries.0,
-      c.in-ok-write-clock.ensures ∙ ap (λ (t : List ℕ). t ++ clock) (entries.1 ∙ ap (λ (t : List ℕ). t ++ entries.0) c.in-ok-text.ensures)
+      c.in_ok-write_clock.ensures ∙ ap (λ (t : List ℕ). t ++ clock) (entries.1 ∙ ap (λ (t : List ℕ). t ++ entries.0) c.in_ok-text.ensures)
           ∙ append_assoc counts entries.0 clock,
     )
