@@ -69,6 +69,8 @@ def main():
         keep = {w.strip() for m in LIBRARY.finditer(text) for w in m[1].split(",")}
         words = set(WORD.findall(text))
         here = {n: t for n, t in turned.items() if n in words and n not in keep}
+        if not path.endswith(".antt"):
+            here.pop("is_none", None)  # a method of the code
         for n, t in sorted(here.items()):
             if t in words:
                 print(f"look: {path}: {t} stood there beside {n}")

@@ -1,5 +1,6 @@
 //! The program `merge`: logs from standard input, and the merged table, or one line of fault, to standard output.
 #![tactic(auto)]
+
 use anyhow::anyhow;
 use merger::{LONGEST_INPUT, merged};
 use std::io::{Read, Write};

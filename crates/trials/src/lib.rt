@@ -1,5 +1,6 @@
 //! Trials of the merge on inputs that were worked out from the rules.
 #![tactic(auto)]
+
 #[cfg(test)]
 mod cases;
 #[cfg(test)]

@@ -248,14 +248,14 @@ mod tests {
     #[test]
     fn the_longest_input(rt: HostRuntime) -> Result<(), Fail> {
         let input = vec![in rt.alloc(); 0; 65_536]?;
-        assert!(rt; printed(rt.alloc(), &input)?.as_slice() == b"fault 16 merge 0\n");
+        assert!(rt; printed(rt.alloc(), &input)?.as_slice() == b"fault 16 merge 0\n".as_slice());
         Ok(())
     }
 
     #[test]
     fn one_byte_too_many(rt: HostRuntime) -> Result<(), Fail> {
         let input = vec![in rt.alloc(); 0; 65_537]?;
-        assert!(rt; printed(rt.alloc(), &input)?.as_slice() == b"fault 15 caller 0\n");
+        assert!(rt; printed(rt.alloc(), &input)?.as_slice() == b"fault 15 caller 0\n".as_slice());
         Ok(())
     }
 }

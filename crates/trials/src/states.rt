@@ -28,7 +28,7 @@ fn a_settled_merge_opens_again(rt: HostRuntime) -> Result<(), Fail> {
                 editor: 1,
                 number: 1,
             })
-            .IsNoFault()
+            .is_none()
     );
     assert!(rt;
         settled.lookup(Id {
@@ -42,10 +42,12 @@ fn a_settled_merge_opens_again(rt: HostRuntime) -> Result<(), Fail> {
                 editor: 3,
                 number: 1,
             })
-            .IsNoFault()
+            .is_none()
     );
     let text = settled.show(rt.alloc())?;
-    assert!(rt; text.as_slice() == b"shown 1 tombstones 1\n2.1 00000042\nclock 1:2 2:1\n");
+    assert!(rt;
+        text.as_slice() == b"shown 1 tombstones 1\n2.1 00000042\nclock 1:2 2:1\n".as_slice()
+    );
     Ok(())
 }
 
