@@ -1,5 +1,5 @@
 -- The digits that bytes are printed as.
-use Rattle.std.specs.Prelude.{ℕ, ◌+◌, ◌/◌, ◌%◌, Bool, cond, List, [], ◌∷◌, ◌++◌, nat_lt}
+use Rattle.std.specs.Prelude.{ℕ, ◌+◌, ◌/◌, ◌%◌, cond, List, [], ◌∷◌, ◌++◌, nat_lt}
 
 -- the upper-case digit of a number below 16: 0 to 9 from code 48 on, A to F from code 65 on
 abbrev pub hex_digit : ℕ → ℕ

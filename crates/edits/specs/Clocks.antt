@@ -1,5 +1,5 @@
 -- Clocks.
-use Rattle.std.specs.Prelude.{ℕ, Bool, true, false, ◌&&◌, List, length, take, drop, ◌==◌, nat_le}
+use Rattle.std.specs.Prelude.{Bool, ◌&&◌, List, length, take, drop, ◌==◌, nat_le}
 use Rattle.edits.specs.declared.clock.Pair.{Pair}
 use Rattle.edits.specs.declared.clock.Clock.{Clock}
 use Rattle.edits.specs.Pairs.{ascending, unused}

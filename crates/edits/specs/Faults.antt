@@ -1,5 +1,5 @@
 -- The listing of the faults: for each case its number, its layer and its spot, and the line that is printed of it.
-use Rattle.std.specs.Prelude.{ℕ, List, [], ◌∷◌, ◌++◌, codes, decimal}
+use Rattle.std.specs.Prelude.{ℕ, List, ◌++◌, codes, decimal}
 use Rattle.edits.specs.Ids.{id_text}
 use Rattle.edits.specs.declared.fault.Fault.{Fault}
 use Rattle.edits.specs.declared.fault.Fault.TheVariants.{NoMemory, Extent, Mark, Numbering, Pairs, Reference, Element, RunLength, RosterFull, SlotsFull, ShelfFull, OwnEditWaits, NumbersUsedUp, IndexTooLarge, ChannelFull, WrongSize, LogHead, StillWaiting, OutsideLimits}

@@ -1,5 +1,5 @@
 -- Identifiers.
-use Rattle.std.specs.Prelude.{ℕ, Bool, true, false, cond, ◌&&◌, List, ◌++◌, codes, decimal, ◌==◌, nat_lt}
+use Rattle.std.specs.Prelude.{ℕ, Bool, cond, ◌&&◌, List, ◌++◌, codes, decimal, ◌==◌, nat_lt}
 use Rattle.edits.specs.declared.id.Id.{Id}
 
 -- the order of identifiers: by editor, then by number

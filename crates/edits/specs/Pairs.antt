@@ -1,5 +1,5 @@
 -- The pairs of a clock.
-use Rattle.std.specs.Prelude.{ℕ, suc, Bool, true, false, cond, ◌&&◌, List, [], ◌∷◌, ◌==◌, nat_lt}
+use Rattle.std.specs.Prelude.{ℕ, suc, Bool, true, cond, ◌&&◌, List, [], ◌∷◌, ◌==◌, nat_lt}
 use Rattle.edits.specs.declared.clock.Pair.{Pair}
 
 -- the editors ascend from above low, and no count is 0

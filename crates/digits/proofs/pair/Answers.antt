@@ -1,5 +1,5 @@
 -- The table is the list of the rule's values, which antt computes and compares.
-use Rattle.std.proofs.Common.{ℕ, [], zero-add, rules}
+use Rattle.std.proofs.Common.{[], zero-add, rules}
 use Rattle.std.proofs.lemmas.List.FromFn.{get_or-map-range_with_len}
 use Rattle.digits.specs.Hex.{hex_pair}
 use Rattle.digits.proofs.pair.Goals as goal

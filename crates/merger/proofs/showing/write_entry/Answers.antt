@@ -1,7 +1,6 @@
 use Rattle.std.proofs.Common.{◌≡◌, ℕ, List, ◌++◌, vec_items, codes, ap, ◌∙◌, append_assoc}
 use Rattle.digits.specs.Hex.{hex_text}
 use Rattle.edits.specs.Ids.{id_text}
-use Rattle.merger.specs.Lines.{entry_line}
 use Rattle.merger.proofs.showing.write_entry.Goals as goal
 
 pub returns : goal.returns

@@ -1,4 +1,4 @@
-use Rattle.std.proofs.Common.{◌≡◌, Bool, true, false, length, vec_items, sym, ap, ◌∙◌, arith}
+use Rattle.std.proofs.Common.{◌≡◌, length, vec_items, sym, ap, ◌∙◌, arith}
 use Rattle.edits.specs.declared.edit.Stamp.{Stamp}
 use Rattle.edits.specs.Clocks.{pairs_of}
 use Rattle.replica.specs.Rosters.{includes}

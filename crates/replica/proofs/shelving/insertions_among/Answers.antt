@@ -1,4 +1,4 @@
-use Rattle.std.proofs.Common.{◌≡◌, ℕ, ◌+◌, sym, ap, ◌∙◌, arith}
+use Rattle.std.proofs.Common.{◌≡◌, sym, ap, ◌∙◌, arith}
 use Rattle.edits.specs.Edits.{is_insertion}
 use Rattle.replica.specs.Lists.{one_if}
 use Rattle.replica.proofs.Waiting.{insertions_more, insertions_all}

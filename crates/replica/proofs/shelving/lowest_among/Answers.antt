@@ -1,4 +1,4 @@
-use Rattle.std.proofs.Common.{◌≡◌, ap, ◌∙◌}
+use Rattle.std.proofs.Common.{ap, ◌∙◌}
 use Rattle.edits.specs.declared.edit.Stamp.{Stamp}
 use Rattle.replica.specs.Shelves.{lower}
 use Rattle.replica.proofs.Waiting.{lowest_more, lowest_all}

@@ -1,7 +1,6 @@
-use Rattle.std.proofs.Common.{◌≡◌, Bool, get_or, sym, ap, ◌∙◌}
+use Rattle.std.proofs.Common.{Bool, sym, ap, ◌∙◌}
 use Rattle.edits.specs.declared.edit.Edit.{Edit}
 use Rattle.edits.specs.declared.edit.Stamp.{Stamp}
-use Rattle.edits.specs.declared.id.Id.{Id}
 use Rattle.edits.specs.Edits.{stamp_of}
 use Rattle.edits.specs.Ids.{same}
 use Rattle.replica.proofs.Walks.{any_found, any_more, any_none}

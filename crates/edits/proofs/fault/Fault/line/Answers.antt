@@ -1,4 +1,4 @@
-use Rattle.std.proofs.Common.{◌≡◌, ℕ, List, IfOk, string_bytes, sym, ap, ◌∙◌, subst}
+use Rattle.std.proofs.Common.{◌≡◌, ℕ, List, IfOk, string_bytes, ap, ◌∙◌, subst}
 use Rattle.edits.specs.Faults.{word_of, spot_text, line_text, fault_line}
 use Rattle.edits.proofs.fault.Fault.line.Goals as goal
 

@@ -1,4 +1,4 @@
-use Rattle.std.proofs.Common.{◌≡◌, Bool, cond, sym, ap, ◌∙◌}
+use Rattle.std.proofs.Common.{Bool, cond, sym, ap, ◌∙◌}
 use Rattle.std.proofs.lemmas.Result.{err_from_is_err_and}
 use Rattle.edits.specs.declared.fault.Fault.TheVariants.{NoMemory, OutsideLimits}
 use Rattle.merger.proofs.settling.Merge+K+Gathering.new.Goals as goal

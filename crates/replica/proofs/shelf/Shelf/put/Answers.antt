@@ -1,4 +1,4 @@
-use Rattle.std.proofs.Common.{vec_items, refl, ap, ◌∙◌, rules}
+use Rattle.std.proofs.Common.{vec_items, refl, ap, ◌∙◌}
 use Rattle.replica.specs.Shelves.{insertions}
 use Rattle.replica.proofs.Waiting.{insertions_push}
 use Rattle.replica.proofs.shelf.Shelf.put.Goals as goal

@@ -1,4 +1,4 @@
-use Rattle.std.proofs.Common.{◌≡◌, [], ◌∷◌, vec_items, ap, ◌∙◌, rules}
+use Rattle.std.proofs.Common.{[], ◌∷◌, vec_items, ap, ◌∙◌, rules}
 use Rattle.std.proofs.lemmas.List.{map-append}
 use Rattle.tree.specs.declared.node.Node.{Node}
 use Rattle.tree.specs.Entries.{entries_of}

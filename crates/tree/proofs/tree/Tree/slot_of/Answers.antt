@@ -1,4 +1,4 @@
-use Rattle.std.proofs.Common.{◌≡◌, ◌<◌, length, vec_items, vec_len, sym, rules}
+use Rattle.std.proofs.Common.{◌<◌, length, vec_items, vec_len, sym, rules}
 use Rattle.tree.proofs.Entries.{named_there}
 use Rattle.tree.proofs.tree.Tree.slot_of.Goals as goal
 
