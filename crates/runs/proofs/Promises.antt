@@ -8,7 +8,7 @@ use Rattle.runs.proofs.Calls.{own_is, number_with}
 use Rattle.order.specs.Lists.{◌∈◌, here, ◌⊆◌}
 use Rattle.order.specs.Edits.{Clock, Edit, Covers, Order, is_insertion}
 use Rattle.order.specs.Forests.{Entry, read, visible, apply, tree}
-use Rattle.order.specs.Histories.{count, inserted, deleted, stands, as_shown, standing, deletes}
+use Rattle.order.specs.Histories.{count, stands, as_shown, standing, deletes}
 use Rattle.order.specs.Systems.{Making, making_edit, edits_of}
 use Rattle.order.specs.Theorems.{PutAt, HiddenAt}
 use Rattle.order.proofs.Ids.{not_both, not_true, eqb_eq, either}

@@ -7,7 +7,7 @@ use Rattle.order.specs.Edits.{Edit}
 use Rattle.order.specs.Systems.{Making, edits_of}
 use Rattle.order.proofs.Ids.{either, eqb_eq}
 use Rattle.order.proofs.Lists.{any_true, in_left, in_last, in_snoc, in_nil}
-use Rattle.runs.specs.Replicas.{Replica, new, placed, own_roster, with_shelf, ready, listed, enrolled, Verdict, knows, refuses, applies, shelves, Answer, known, refused, taken, Pick, nothing, picked, pick, verdict, applied, go_on, release, judge, take_in, commit, Intake, after_one, take_all}
+use Rattle.runs.specs.Replicas.{Replica, new, placed, with_shelf, ready, listed, enrolled, Verdict, knows, refuses, applies, shelves, Answer, known, refused, taken, Pick, nothing, picked, pick, verdict, applied, go_on, release, judge, take_in, commit, after_one, take_all}
 use Rattle.runs.specs.Worlds.{made_by}
 use Rattle.runs.specs.Promises.{Rostered, accepted_by}
 use Rattle.runs.proofs.Keeping.{release_editor}
