@@ -9,7 +9,7 @@ use Rattle.edits.specs.declared.edit.Parent.TheVariants as parent
 use Rattle.edits.specs.Ids.{same}
 use Rattle.order.specs.Lists.{◌∈◌, here, there, ◌∉◌, ◌⊆◌, keep}
 use Rattle.order.specs.Edits.{Change, insertion, deletion, Edit, Refers, Lawful, is_insertion, Order}
-use Rattle.order.specs.Forests.{Entry, Forest, read, is_shown, entry_id, ids, fresh, hide, change, apply, grown, tree, visible}
+use Rattle.order.specs.Forests.{Entry, Forest, read, is_shown, entry_id, ids, fresh, hide, apply, grown, tree, visible}
 use Rattle.order.specs.Histories.{edit_id, edit_ids, Next, History, empty, more, inserted, deletes, deleted, stands, as_shown, standing}
 use Rattle.order.proofs.Ids.{not_true, and_true, or_true, or_nothing, not_or, same_eq, same_refl}
 use Rattle.order.proofs.Lists.{any_true, true_any, any_append, in_left, in_last, of_map, in_nil, keep_alike, keep_map, Distinct, distinct_append}

@@ -1,6 +1,7 @@
 //! The theory of the shared document. Each function here states one theorem by its contract; the words of the theorems
 //! are defined in specs/. `before` is any order of siblings, `T` any type of elements.
 #![tactic(auto)]
+
 ghost use Rattle.std.specs.Prelude.{◌≡◌, ℕ, ◌<◌, ◌≤◌, Bool, ◌↔◌, List, [], ◌∷◌, ◌++◌, length};
 ghost use Rattle.edits.specs.declared.id.Id.{Id};
 ghost use Rattle.edits.specs.Ids.{precedes};

@@ -13,11 +13,12 @@ use Rattle.order.proofs.Ids.{either, not_both, eqb_eq, eqb_same, leb_lt, ltb_le}
 use Rattle.order.proofs.Lists.{in_left, in_last, in_snoc, in_nil}
 use Rattle.order.proofs.Histories.{tree_snoc, in_ids, of_ids, count_own, count_other}
 use Rattle.order.proofs.Making.{inserts_at, deletes_at}
-use Rattle.runs.specs.Replicas.{Editor, Replica, new, own_roster, own_waits, used_up, next_id, full, no_insert, no_delete, own_insertion, own_deletion, Reply, declined, edited, commit, insert, delete}
-use Rattle.runs.specs.Promises.{total, Applied, applies, Document, Fed, unused, takes_in, makes_insertion, makes_deletion, KeptAlone}
+use Rattle.runs.specs.Replicas.{Editor, Replica, new, own_roster, own, own_waits, used_up, next_id, full, no_insert, no_delete, own_insertion, own_deletion, Reply, declined, edited, commit, insert, delete}
+use Rattle.runs.specs.Promises.{total, Applied, applies, Rostered, Document, Fed, unused, takes_in, makes_insertion, makes_deletion, KeptAlone}
 use Rattle.runs.proofs.Tests.{Allowed, allowed_by}
 use Rattle.runs.proofs.Sound.{Sound, Settled, covered_ready}
-use Rattle.runs.proofs.Calls.{takes, insertion_is, deletion_is, insert_edits, delete_edits}
+use Rattle.runs.proofs.Calls.{takes, own_is, insertion_is, deletion_is, insert_edits, delete_edits}
+use Rattle.runs.proofs.Rosters.{new_rostered, takes_rostered, commit_rostered}
 
 -- outside 1 to n nothing is added
 total_same : {E : Type 0} (n : ℕ) (h : List (Edit E)) (e : Edit E) → n < e.id.editor → total n (count (h ++ (e ∷ []))) ≡ total n (count h)
@@ -77,8 +78,8 @@ module _ {E : Type 0} where
     pub log_applied : (e : Edit E) → e ∈ log → Applied acc e
     log_applied = history_applied S.history acc (λ e m. (S.accepted e).1 (inl m))
 
-    pub document : Document before r acc
-    document = record {
+    pub document : Rostered r acc → Document before r acc
+    document on_roster = record {
       log = log;
       history = S.history;
       exactly = λ e. (log_applied e, in_log);
@@ -89,6 +90,7 @@ module _ {E : Type 0} where
       slots = S.slots;
       room = S.room;
       editors = S.editors;
+      roster = on_roster;
     }
       where
         left : (e : Edit E) → (Applied acc e → ⊥) → (e ∈ log) ⊎ (e ∈ r.shelf) → e ∈ r.shelf
@@ -166,14 +168,20 @@ module _ {E : Type 0} where
     log : List (Edit E)
     sound : Sound before r acc log
     settled : Settled r
+    roster : Rostered r acc
+
+  -- the editor of an own edit
+  own_of : (r : Replica E) (i : ℕ) → r.editor ≡ Some i → r.editor ≡ Some (own r)
+  own_of r i owner = owner ∙ ap Some (sym (own_is r i owner))
 
   fine : {before : Id → Id → Bool} {r : Replica E} {acc : List (Edit E)} → Fed before r acc → Fine before r acc
-  fine {before} (unused editor slots room) = record { log = []; sound = new_sound before editor slots room; settled = λ e m. elim m [ ] }
-  fine (takes_in e s f) = let F = fine f in let T = takes F.sound F.settled e s in record { log = T.after.now; sound = T.after.sound; settled = T.settled }
-  fine (makes_insertion i k x ed owner f) = let F = fine f in let T = insert_edits F.sound i ed owner F.settled k x in
-      record { log = T.after.now; sound = T.after.sound; settled = T.settled }
-  fine (makes_deletion i k ed owner f) = let F = fine f in let T = delete_edits F.sound i ed owner F.settled k in
-      record { log = T.after.now; sound = T.after.sound; settled = T.settled }
+  fine {before} (unused editor slots room) = record { log = []; sound = new_sound before editor slots room; settled = λ e m. elim m [ ]; roster = new_rostered editor slots room }
+  fine {before} (takes_in {r = r} {accepted = accepted} e s f) = let F = fine f in let T = takes F.sound F.settled e s in
+      record { log = T.after.now; sound = T.after.sound; settled = T.settled; roster = takes_rostered before e r accepted F.roster }
+  fine {before} (makes_insertion {r = r} i k x ed owner f) = let F = fine f in let T = insert_edits F.sound i ed owner F.settled k x in
+      record { log = T.after.now; sound = T.after.sound; settled = T.settled; roster = commit_rostered before (no_insert k r) (own_insertion k x r) r _ (own_of r i owner) F.roster }
+  fine {before} (makes_deletion {r = r} i k ed owner f) = let F = fine f in let T = delete_edits F.sound i ed owner F.settled k in
+      record { log = T.after.now; sound = T.after.sound; settled = T.settled; roster = commit_rostered before (no_delete k r) (own_deletion k r) r _ (own_of r i owner) F.roster }
 
   -- the clock adds up to the number of applied edits
   sum_applied : {before : Id → Id → Bool} {r : Replica E} {acc log : List (Edit E)} → Sound before r acc log → total 255 r.clock ≡ length log
@@ -181,9 +189,13 @@ module _ {E : Type 0} where
 
 pub kept_alone : {E : Type 0} {before : Id → Id → Bool} {r : Replica E} {acc : List (Edit E)} → Fed before r acc → KeptAlone before r acc
 kept_alone fed = let F = fine fed in record {
-  document = document F.sound F.settled;
+  document = document F.sound F.settled F.roster;
   grows = λ e s n q. let T = takes F.sound F.settled e s in
       sum_applied T.after.sound ∙ T.grows n q ∙ ap (λ (m : ℕ). m + n) (sym (sum_applied F.sound));
+  insert_grows = λ i k n x m ed owner q. let T = insert_edits F.sound i ed owner F.settled k x in
+      sum_applied T.after.sound ∙ T.grows m n q ∙ ap (λ (j : ℕ). j + n) (sym (sum_applied F.sound));
+  delete_grows = λ i k n m ed owner q. let T = delete_edits F.sound i ed owner F.settled k in
+      sum_applied T.after.sound ∙ T.grows m n q ∙ ap (λ (j : ℕ). j + n) (sym (sum_applied F.sound));
   inserted = λ i k n x m ed owner q. let u = puts_at F.sound i ed owner k n x m q in (u.1, u.2);
   deleted = λ i k n m ed owner q. let u = hides_at F.sound i ed owner k n m q in (u.1, u.2);
 }

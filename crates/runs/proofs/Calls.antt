@@ -14,7 +14,7 @@ use Rattle.order.proofs.Ids.{not_both, leb_lt, eqb_same}
 use Rattle.order.proofs.Lists.{any_false, in_left, in_last, in_snoc, Distinct, distinct_append, in_nil, keep_append}
 use Rattle.order.proofs.Histories.{of_ids, counted}
 use Rattle.order.proofs.Making.{insertion_lawful, deletion_lawful, new_next}
-use Rattle.runs.specs.Replicas.{Editor, most_editors, Replica, new, placed, with_shelf, inserts, is_known, ready, listed, full, enrolled, Verdict, knows, refuses, applies, shelves, Answer, known, refused, taken, Reply, verdict, own, own_waits, used_up, next_id, no_insert, no_delete, own_insertion, own_deletion, applied, settled, applied_with, judge, take_in, commit, insert, delete}
+use Rattle.runs.specs.Replicas.{Editor, most_editors, Replica, new, placed, with_shelf, inserts, is_known, ready, listed, full, enrolled, Verdict, knows, refuses, applies, shelves, Answer, known, refused, taken, Reply, declined, edited, verdict, own, own_waits, used_up, next_id, no_insert, no_delete, own_insertion, own_deletion, applied, settled, applied_with, judge, take_in, commit, insert, delete}
 use Rattle.runs.specs.Promises.{SoundEdit, accepted_by}
 use Rattle.runs.specs.Worlds.{made_by}
 use Rattle.runs.proofs.Tests.{placed_length, one_if, keep_length, Judged, judged_by, Allowed, allowed_by}
@@ -60,6 +60,10 @@ abbrev number_of : Answer → ℕ
 number_of known = 0
 number_of (refused f) = 0
 number_of (taken n) = n
+
+abbrev pub number_with : {E : Type 0} → Reply E → ℕ
+number_with (declined f) = 0
+number_with (edited m n) = n
 
 module _ {E : Type 0} {before : Id → Id → Bool} where
   -- the roster takes the editor in
@@ -219,17 +223,22 @@ module _ {E : Type 0} {before : Id → Id → Bool} where
     pub record Edits (p : Replica E × Reply E) : Type 0 where
       pub after : After before (log ++ edits_of (made_by p.1)) p.0 (acc ++ edits_of (made_by p.1))
       pub settled : Settled p.0
+      pub grows : (m : Making E) (n : ℕ) → p.1 ≡ edited m n → length after.now ≡ length log + n
 
     -- an edit that the tests let pass
     commits : Settled r → (m : Making E) (c : Change E) → m.edit ≡ new_edit i log c → (used no_index slotless : Bool)
         → (no_index ≡ false → Lawful (new_edit i log c)) → (slotless ≡ false → (inserts m.edit && full r) ≡ false)
         → (o : Option Fault) → Allowed (own_waits r) used no_index slotless o → Edits (commit before o m r)
-    commits rest m c p used no_index slotless lawful free (Some f) a = record { after = subst (λ (l : List (Edit E)). After before l r (acc ++ [])) (sym (append-nil log)) (unmoved S); settled = rest }
+    commits rest m c p used no_index slotless lawful free (Some f) a = record { after = subst (λ (l : List (Edit E)). After before l r (acc ++ [])) (sym (append-nil log)) (unmoved S); settled = rest; grows = λ d n q. cc }
     commits rest m c p used no_index slotless lawful free None a = record {
-      after = settle S m.edit (subst SoundEdit (sym p) (own_sound c (lawful a.2))) (subst (Next log) (sym p) (new_next S.history i c))
-          (subst (λ (e : Edit E). e.id ∉ edit_ids r.shelf) (sym p) (own_new c a.0)) (slot_left r m.edit (free a.3) S.slots);
+      after = A;
       settled = settles before m.edit r;
+      grows = λ d n q. growth before m.edit S A ∙ ap (λ (k : ℕ). length log + k) (ap number_with q);
     }
+      where
+        A : After before (log ++ (m.edit ∷ [])) (settled before m.edit r) (acc ++ (m.edit ∷ []))
+        A = settle S m.edit (subst SoundEdit (sym p) (own_sound c (lawful a.2))) (subst (Next log) (sym p) (new_next S.history i c))
+            (subst (λ (e : Edit E). e.id ∉ edit_ids r.shelf) (sym p) (own_new c a.0)) (slot_left r m.edit (free a.3) S.slots)
 
     pub insert_edits : Settled r → (k : ℕ) (x : E) → Edits (insert before k x r)
     insert_edits rest k x = commits rest (own_insertion k x r) (insertion_at k x (tree before log)) (ap (λ (m : Making E). m.edit) (insertion_is k x))

@@ -4,7 +4,7 @@ use Rattle.edits.specs.declared.id.Id.{Id}
 use Rattle.order.specs.Lists.{with_at}
 use Rattle.order.specs.Edits.{Edit, Order}
 use Rattle.runs.specs.Replicas.{Editor, Replica, insert, delete, Intake}
-use Rattle.runs.specs.Channels.{Channel, Format, Sent, Bytes}
+use Rattle.runs.specs.Channels.{Channel, Format, AllFit, Sent, Bytes}
 use Rattle.runs.specs.Worlds as worlds
 use Rattle.runs.specs.Worlds.{World, after_edit, with_line, after_send, after_fetch, Step, sends, fetches, misreads, finds_none, then, Run}
 use Rattle.runs.specs.Clauses.{GoesOn, untouched, EditsOn, SendsOn, Fetched, FetchesOn}
@@ -57,7 +57,8 @@ module _ {E X : Type 0} {before : Id → Id → Bool} (O : Order before) (meanin
   )
 
   pub send_on : (format : Format X) (h : Channel) (xs : List X) (k : Channel) (rs : List Bytes) (rest : List X) → Sent format h xs k rs rest → SendsOn before meaning format h xs k
-  send_on format h xs k rs rest sent w c run made pf ph = goes_on w _ run (sends c xs rest rs k made
+  send_on format h xs k rs rest sent w c run made fit pf ph = goes_on w _ run (sends c xs rest rs k made
+      (subst (λ (f : Format X). AllFit f xs) (sym pf) fit)
       (subst (λ (f : Format X). Sent f (w.lines c).holds xs k rs rest) (sym pf) (subst (λ (g : Channel). Sent format g xs k rs rest) (sym ph) sent)))
 
   pub fetch_on : (format : Format X) (h : Channel) (r : Replica E) (k : Channel) (intake : Intake E) → Fetched before meaning format h r k intake

@@ -13,7 +13,7 @@ use Rattle.runs.proofs.Calls.{Takes, takes}
 
 module _ {E : Type 0} (before : Id → Id → Bool) where
   -- no call changes whose replica it is
-  release_editor : (n : ℕ) (r : Replica E) → (release before n r).editor ≡ r.editor
+  pub release_editor : (n : ℕ) (r : Replica E) → (release before n r).editor ≡ r.editor
   release_editor zero r = refl
   release_editor (suc n) r = go (pick (ready r) r.shelf) (release_editor n)
     where

@@ -1,8 +1,9 @@
 pub mod Tests
 pub mod Sound
 pub mod Calls
-pub mod Alone
 pub mod Keeping
+pub mod Rosters
+pub mod Alone
 pub mod Simulation
 pub mod Promises
 pub mod Clauses

@@ -1,6 +1,8 @@
 -- The format `numbers` keeps its law: what is written is read back, ghost fields included, since a test passes in one way only.
-use Rattle.std.proofs.Common.{◌≡◌, ℕ, ◌+◌, ◌≤◌, Bool, true, false, eqb, List, [], ◌∷◌, length, Some, Option, refl, ap, ◌∙◌, arith}
+use Rattle.std.proofs.Common.{◌≡◌, ℕ, zero, suc, ◌+◌, ◌≤◌, Bool, true, false, eqb, leb, List, [], ◌∷◌, length, Some, None, Option, sym, refl, ap, ◌∙◌, subst, arith}
+use Rattle.std.specs.List.{list_all}
 use mathlib.Core.Bool.{false≢true, Bool-set}
+use Rattle.edits.specs.declared.id.Id.{Id}
 use Rattle.edits.specs.declared.clock.Pair.{Pair}
 use Rattle.edits.specs.declared.edit.Side.{Side}
 use Rattle.edits.specs.declared.edit.Side.TheVariants.{Left, Right}
@@ -9,10 +11,14 @@ use Rattle.edits.specs.declared.edit.Parent.TheVariants.{Start, Entry}
 use Rattle.edits.specs.declared.edit.Stamp.{Stamp}
 use Rattle.edits.specs.declared.edit.Edit.{Edit as Carried}
 use Rattle.edits.specs.declared.edit.Edit.TheVariants.{Insertion, Deletion}
-use Rattle.order.proofs.Ids.{and_true, eqb_eq}
-use Rattle.runs.specs.Channels.{Bytes, KeepsLaw}
-use Rattle.runs.specs.Numbers.{put_parent, put_side, put_pairs, put_stamp, put_edit, get_parent, get_side, get_pairs, get_stamp, get_edit}
-use Rattle.runs.specs.Numbers.{if_some, if_passed, stamp_by, insertion_by, deletion_by, numbers}
+use Rattle.order.specs.Lists.{◌∈◌, here, there}
+use Rattle.order.proofs.Ids.{and_true, eqb_eq, leb_le}
+use Rattle.order.proofs.Lists.{in_nil}
+use Rattle.edits.specs.Clocks.{pairs_of}
+use Rattle.edits.specs.Rules.{parent_kept, covers}
+use Rattle.runs.specs.Channels.{Bytes, AllFit, KeepsLaw, Packed}
+use Rattle.runs.specs.Numbers.{put_parent, put_side, put_pairs, put_stamp, put_edit, get_number, get_id, parent_by, get_parent, side_by, get_side, get_pairs, get_stamp, edit_by, get_edit}
+use Rattle.runs.specs.Numbers.{if_some, if_passed, stamp_by, insertion_by, deletion_by, put_first, numbers}
 use Rattle.runs.proofs.Carried.{stamp_rules}
 
 -- WHAT IS WRITTEN IS READ BACK
@@ -82,13 +88,84 @@ some_numbers : (x : Carried ℕ) → 1 ≤ length (put_edit x)
 some_numbers (Insertion p x) = omega arith
 some_numbers (Deletion d) = omega arith
 
+-- WHAT A RECORD HOLDS
+
+small_bytes : (r : Bytes) → list_all (λ n. leb n 255) r ≡ true → (b : ℕ) → b ∈ r → b ≤ 255
+small_bytes [] t b m = absurd (in_nil m)
+small_bytes (n ∷ r) t b m = go m (small_bytes r both.1 b)
+  where
+    both : (leb n 255 ≡ true) × (list_all (λ n. leb n 255) r ≡ true)
+    both = and_true (leb n 255) (list_all (λ n. leb n 255) r) t
+
+    go : b ∈ (n ∷ r) → (b ∈ r → b ≤ 255) → b ≤ 255
+    go (here p) ih = subst (λ (k : ℕ). k ≤ 255) (sym p) (leb_le n 255 both.0)
+    go (there k) ih = ih k
+
+-- HOW MANY EDITS ARE READ
+
+-- if a list is read, it has one edit
+abbrev One : Option (List (Carried ℕ)) → Type 0
+One None = Unit {0}
+One (Some xs) = length xs ≡ 1
+
+some_one : (test : Bool) (make : test ≡ true → List (Carried ℕ)) → ((k : test ≡ true) → length (make k) ≡ 1) → One (if_passed test make)
+some_one true make one = one refl
+some_one false make one = tt
+
+number_one : (r : Bytes) (then : ℕ → Bytes → Option (List (Carried ℕ))) → ((n : ℕ) (r : Bytes) → One (then n r)) → One (get_number r then)
+number_one [] then one = tt
+number_one (n ∷ r) then one = one n r
+
+id_one : (r : Bytes) (then : Id → Bytes → Option (List (Carried ℕ))) → ((a : Id) (r : Bytes) → One (then a r)) → One (get_id r then)
+id_one r then one = number_one r _ (λ i r. number_one r _ (λ n r. one (record { editor = i; number = n }) r))
+
+if_one : {B : Type 0} (o : Option B) (then : B → Option (List (Carried ℕ))) → ((b : B) → One (then b)) → One (if_some o then)
+if_one None then one = tt
+if_one (Some b) then one = one b
+
+parent_one : (r : Bytes) (then : Parent → Bytes → Option (List (Carried ℕ))) → ((p : Parent) (r : Bytes) → One (then p r)) → One (get_parent r then)
+parent_one r then one = number_one r _ by
+  where
+    by : (n : ℕ) (r : Bytes) → One (parent_by n r then)
+    by zero r = one Start r
+    by (suc zero) r = id_one r _ (λ a r. one (Entry a) r)
+    by (suc (suc n)) r = tt
+
+side_one : (r : Bytes) (then : Side → Bytes → Option (List (Carried ℕ))) → ((s : Side) (r : Bytes) → One (then s r)) → One (get_side r then)
+side_one r then one = number_one r _ by
+  where
+    by : (n : ℕ) (r : Bytes) → One (side_by n r then)
+    by zero r = one Left r
+    by (suc zero) r = one Right r
+    by (suc (suc n)) r = tt
+
+edit_one : (r : Bytes) → One (get_edit r)
+edit_one r = number_one r edit_by by
+  where
+    deletion : (t : Id) (s : Stamp) → One (deletion_by s t)
+    deletion t s = some_one (covers (pairs_of s.clock) t) _ (λ k. refl)
+
+    insertion : (p : Parent) (side : Side) (x : ℕ) (s : Stamp) → One (insertion_by s p side x)
+    insertion p side x s = some_one (parent_kept (pairs_of s.clock) p side) _ (λ k. refl)
+
+    by : (n : ℕ) (r : Bytes) → One (edit_by n r)
+    by zero r = id_one r _ (λ t r. if_one (get_stamp r) (λ s. deletion_by s t) (deletion t))
+    by (suc zero) r = parent_one r _ (λ p r. side_one r _ (λ side r. number_one r _ (λ x r. if_one (get_stamp r) (λ s. insertion_by s p side x) (insertion p side x))))
+    by (suc (suc n)) r = tt
+
 pub numbers_lawful : KeepsLaw numbers
-numbers_lawful [] some = let no : ⊥ = omega arith in absurd no
-numbers_lawful (x ∷ xs) some = record {
-  some_bytes = some_numbers x;
-  few_bytes = let few = edit_long x in omega arith;
-  some_edits = omega arith;
-  few-edits = omega arith;
-  at_hand = omega arith;
-  read_back = edit_back x;
+numbers_lawful = record {
+  packing = packing;
+  reading = λ r xs q. let one : length xs ≡ 1 = subst One q (edit_one r) in (omega (arith, one), omega (arith, one));
 }
+  where
+    packing : (xs : List (Carried ℕ)) → 1 ≤ length xs → AllFit numbers xs → Packed get_edit xs (put_first xs).0 (put_first xs).1
+    packing [] some fit = let no : ⊥ = omega arith in absurd no
+    packing (x ∷ xs) some fit = record {
+      bytes = small_bytes (put_edit x) (fit x (here refl));
+      some_bytes = some_numbers x;
+      few_bytes = let few = edit_long x in omega arith;
+      some_edits = omega arith;
+      at_hand = omega arith;
+      read_back = edit_back x;
+    }

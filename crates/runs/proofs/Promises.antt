@@ -1,14 +1,14 @@
 -- The promises hold of every run.
-use Rattle.std.proofs.Common.{◌≡◌, ℕ, zero, suc, ◌<◌, ◌≤◌, Bool, true, false, not, ◌&&◌, eqb, ◌⊎◌, ◌↔◌, List, [], ◌∷◌, ◌++◌, map, length, Some, None, Option, sym, refl, ap, ◌∙◌, subst, inl, inr, arith}
+use Rattle.std.proofs.Common.{◌≡◌, ℕ, zero, suc, ◌-◌, ◌<◌, ◌≤◌, Bool, true, false, not, ◌&&◌, eqb, ◌⊎◌, ◌↔◌, List, [], ◌∷◌, ◌++◌, map, length, Some, None, Option, sym, refl, ap, ◌∙◌, subst, inl, inr, arith}
 use Rattle.std.proofs.lemmas.List.{map-append}
 use Rattle.edits.specs.declared.id.Id.{Id}
 use Rattle.edits.specs.declared.fault.Fault.{Fault}
 use Rattle.edits.specs.Ids.{same}
-use Rattle.runs.proofs.Calls.{own_is}
+use Rattle.runs.proofs.Calls.{own_is, number_with}
 use Rattle.order.specs.Lists.{◌∈◌, here, ◌⊆◌}
 use Rattle.order.specs.Edits.{Clock, Edit, Covers, Order, is_insertion}
 use Rattle.order.specs.Forests.{Entry, read, visible, apply, tree}
-use Rattle.order.specs.Histories.{count, inserted, deleted, stands, as_shown, standing, deletes}
+use Rattle.order.specs.Histories.{count, stands, as_shown, standing, deletes}
 use Rattle.order.specs.Systems.{Making, making_edit, edits_of}
 use Rattle.order.specs.Theorems.{PutAt, HiddenAt}
 use Rattle.order.proofs.Ids.{not_both, not_true, eqb_eq, either}
@@ -44,7 +44,7 @@ module _ {E X : Type 0} {before : Id → Id → Bool} {meaning : X → Edit E} w
   step_more : {v w : World E X} → Step before meaning v w → edits_of v.makings ⊆ edits_of w.makings
   step_more {v} (worlds.inserts i k x ed) = edit_more v _
   step_more {v} (worlds.deletes i k ed) = edit_more v _
-  step_more (sends c xs rest rs k made sent) = λ e m. m
+  step_more (sends c xs rest rs k made fit sent) = λ e m. m
   step_more (fetches i c n k xs ed t q) = λ e m. m
   step_more (misreads c n k t q) = λ e m. m
   step_more (finds_none c q) = λ e m. m
@@ -130,18 +130,22 @@ module _ {E X : Type 0} {before : Id → Id → Bool} (O : Order before) (meanin
   applied_only i n (Some f) own m ed p q = absurd (subst IsEdited (sym q) tt)
   applied_only i n None own m ed p q = ap (λ (r : Replica E). r.forest) (none_released i own.edit ed) ∙ ap (λ (u : Making E). apply before u.edit (w.replicas i).forest) p
 
+  applied_one : (i n : ℕ) (o : Option Fault) (own m : Making E) → own.edit.id.editor ≡ i → (commit before o own (w.replicas i)).1 ≡ edited m n → n ≡ 1
+  applied_one i n (Some f) own m ed q = absurd (subst IsEdited (sym q) tt)
+  applied_one i n None own m ed q = sym (ap number_with q) ∙ ap (λ (r : Replica E). suc (length (w.replicas i).shelf - length r.shelf)) (none_released i own.edit ed) ∙ omega arith
+
   own_number : (i : ℕ) → own (w.replicas i) ≡ i
   own_number i = own_is (w.replicas i) i (S.owner i)
 
   puts : (i k n : ℕ) (x : E) (m : Making E) → Editor i → (insert before k x (w.replicas i)).1 ≡ edited m n
-      → (k ≤ length (visible (w.replicas i).forest)) × PutAt k m.edit.id x (w.replicas i).forest (insert before k x (w.replicas i)).0.forest
+      → (n ≡ 1) × (k ≤ length (visible (w.replicas i).forest)) × PutAt k m.edit.id x (w.replicas i).forest (insert before k x (w.replicas i)).0.forest
   puts i k n x m ed q = let u = puts_at (S.sound i) i ed (S.owner i) k n x m q in
-      (u.1, ap visible (applied_only i n (no_insert k (w.replicas i)) (own_insertion k x (w.replicas i)) m (own_number i) u.0 q) ∙ u.2)
+      (applied_one i n (no_insert k (w.replicas i)) (own_insertion k x (w.replicas i)) m (own_number i) q, u.1, ap visible (applied_only i n (no_insert k (w.replicas i)) (own_insertion k x (w.replicas i)) m (own_number i) u.0 q) ∙ u.2)
 
   hides : (i k n : ℕ) (m : Making E) → Editor i → (delete before k (w.replicas i)).1 ≡ edited m n
-      → (k < length (visible (w.replicas i).forest)) × HiddenAt k (w.replicas i).forest (delete before k (w.replicas i)).0.forest
+      → (n ≡ 1) × (k < length (visible (w.replicas i).forest)) × HiddenAt k (w.replicas i).forest (delete before k (w.replicas i)).0.forest
   hides i k n m ed q = let u = hides_at (S.sound i) i ed (S.owner i) k n m q in
-      (u.1, ap visible (applied_only i n (no_delete k (w.replicas i)) (own_deletion k (w.replicas i)) m (own_number i) u.0 q) ∙ u.2)
+      (applied_one i n (no_delete k (w.replicas i)) (own_deletion k (w.replicas i)) m (own_number i) q, u.1, ap visible (applied_only i n (no_delete k (w.replicas i)) (own_deletion k (w.replicas i)) m (own_number i) u.0 q) ∙ u.2)
 
   all_applied : (i : ℕ) → edits_of w.makings ⊆ w.accepted i → ((e : Edit E) → e ∈ edits_of w.makings → Applied (w.accepted i) e) × ((w.replicas i).shelf ≡ [])
   all_applied i sub = (all, none (w.replicas i).shelf (λ d m. ((S.sound i).waiting d m).1 (in_ids (S.logs i) (to_log i (all d (S.honest i d (((S.sound i).accepted d).1 (inr m))))))))
@@ -168,7 +172,8 @@ module _ {E X : Type 0} {before : Id → Id → Bool} (O : Order before) (meanin
   pub kept : Kept before meaning w
   unfolding F
   kept = record {
-    document = λ i. document (S.sound i) (S.settled i);
+    document = λ i. document (S.sound i) (S.settled i) (S.roster i);
+    editor = S.owner;
     honest = S.honest;
     one_each = one_each F.all;
     agreement = agree;

@@ -14,14 +14,15 @@ use Rattle.order.proofs.Ids.{either, not_both, eqb_eq, eqb_same, leb_lt, ltb_le}
 use Rattle.order.proofs.Lists.{in_left, in_split, in_snoc, in_last, in_getD, of_map, at_it, at_other, at_each}
 use Rattle.order.proofs.Making.{insertion_lawful, deletion_lawful}
 use Rattle.runs.specs.Replicas.{Editor, Replica, new, declined, edited, own_waits, used_up, next_id, full, no_insert, no_delete, own_insertion, own_deletion, settled, applied_with, commit, insert, delete, Intake, take_all}
-use Rattle.runs.specs.Channels.{Bytes, Channel, Taken, Format, KeepsLaw, Cut, uncut, one_cut, Puts, none_put, one_put, Sent, Line}
+use Rattle.runs.specs.Channels.{Bytes, Channel, Taken, Format, AllFit, KeepsLaw, Cut, uncut, one_cut, Puts, none_put, one_put, Sent, Line}
 use Rattle.runs.specs.Worlds as worlds
 use Rattle.runs.specs.Worlds.{World, Fresh, after_edit, with_line, after_send, after_fetch, Step, sends, fetches, misreads, finds_none, Leads, no_call, then, Run}
-use Rattle.runs.specs.Promises.{SoundEdit}
+use Rattle.runs.specs.Promises.{SoundEdit, Rostered}
 use Rattle.runs.proofs.Tests.{Allowed, allowed_by}
 use Rattle.runs.proofs.Sound.{Onward, stays, on, on_as, Sound, Settled, After}
 use Rattle.runs.proofs.Calls.{insertion_is, deletion_is, own_sound, Edits, insert_edits, delete_edits}
 use Rattle.runs.proofs.Alone.{new_sound}
+use Rattle.runs.proofs.Rosters.{new_rostered, commit_rostered, all_rostered}
 use Rattle.runs.proofs.Keeping.{commit_editor, take_all_editor, take_all_sub, FedAll, feeds}
 
 -- functions replaced at a place
@@ -58,7 +59,7 @@ in_drop (suc n) (y ∷ xs) x m = there (in_drop n xs x m)
 abbrev Known : {X Y : Type 0} → (X → Y) → List Y → Line X → Type 0
 Known {X} meaning all l = (r : Bytes) → r ∈ l.holds.put → (xs : List X) → l.format.reads r ≡ Some xs → (x : X) → x ∈ xs → meaning x ∈ all
 
-module _ {X : Type 0} (format : Format X) (law : KeepsLaw format) (xs : List X) where
+module _ {X : Type 0} (format : Format X) (law : KeepsLaw format) (xs : List X) (fit : AllFit format xs) where
   some_same : (ys zs : List X) → Some ys ≡ Some zs → ys ≡ zs
   some_same ys zs p = cc
 
@@ -72,7 +73,7 @@ module _ {X : Type 0} (format : Format X) (law : KeepsLaw format) (xs : List X) 
     where
       last : (r : Bytes) → r ≡ (format.packs rest).0 → (ys : List X) → rest ⊆ xs → format.reads r ≡ Some ys → ys ⊆ xs
       last r p ys sub q e i =
-          let same : take (format.packs rest).1 rest ≡ ys = some_same _ ys (sym (law rest pos).read_back ∙ ap format.reads (sym p) ∙ q) in
+          let same : take (format.packs rest).1 rest ≡ ys = some_same _ ys (sym (law.packing rest pos (λ x m. fit x (sub x m))).read_back ∙ ap format.reads (sym p) ∙ q) in
           sub e (in_take (format.packs rest).1 rest e (subst (λ (l : List X). e ∈ l) (sym same) i))
 
       more : Pieces rs rest → Pieces (rs ++ ((format.packs rest).0 ∷ [])) (drop (format.packs rest).1 rest)
@@ -116,6 +117,7 @@ module _ {E X : Type 0} (before : Id → Id → Bool) (meaning : X → Edit E) w
     pub reached : Reached before w.makings logs
     pub sound : (i : ℕ) → Sound before (w.replicas i) (w.accepted i) (logs i)
     pub settled : (i : ℕ) → Settled (w.replicas i)
+    pub roster : (i : ℕ) → Rostered (w.replicas i) (w.accepted i)
     pub owner : (i : ℕ) → (w.replicas i).editor ≡ Some i
     pub honest : (i : ℕ) → w.accepted i ⊆ edits_of w.makings
     pub edits : (e : Edit E) → e ∈ edits_of w.makings → SoundEdit e
@@ -130,10 +132,13 @@ module _ {E X : Type 0} (before : Id → Id → Bool) (meaning : X → Edit E) w
         (subst (λ (acc : List (Edit E)). Sound before (new (Some i) (f.replicas i).0 (f.replicas i).1) acc []) (sym (f.none_accepted i))
         (new_sound before (Some i) (f.replicas i).0 (f.replicas i).1));
     settled = λ i. subst Settled (sym (f.replicas i).2) (λ e m. elim m [ ]);
+    roster = λ i. subst (λ (r : Replica E). Rostered r (w.accepted i)) (sym (f.replicas i).2)
+        (subst (λ (acc : List (Edit E)). Rostered (new (Some i) (f.replicas i).0 (f.replicas i).1) acc) (sym (f.none_accepted i))
+        (new_rostered (Some i) (f.replicas i).0 (f.replicas i).1));
     owner = λ i. ap (λ (r : Replica E). r.editor) (f.replicas i).2;
     honest = λ i e m. elim (subst (λ (l : List (Edit E)). e ∈ l) (f.none_accepted i) m) [ ];
     edits = λ e m. elim (subst (λ (ms : List (Making E)). e ∈ edits_of ms) f.none_made m) [ ];
-    records = λ c r m. elim (subst (λ (h : Channel). r ∈ h.put) (f.channels c) m) [ ];
+    records = λ c r m. elim (subst (λ (p : List Bytes). r ∈ p) (f.channels c).put m) [ ];
     formats = f.formats;
   }
 
@@ -150,14 +155,15 @@ module _ {E X : Type 0} (before : Id → Id → Bool) (meaning : X → Edit E) w
   made_sim : (w : World E X) (S : Sim w) (i n : ℕ) (r : Replica E) (m : Making E) → r.editor ≡ (w.replicas i).editor
       → Reached before (w.makings ++ (m ∷ [])) (extended S.logs i m.edit)
       → SoundEdit m.edit → After before (S.logs i ++ (m.edit ∷ [])) r (w.accepted i ++ (m.edit ∷ [])) → Settled r
-      → Sim (after_edit w i (r, edited m n))
-  made_sim w S i n r m same-editor reach s A rest = record {
+      → Rostered r (w.accepted i ++ (m.edit ∷ [])) → Sim (after_edit w i (r, edited m n))
+  made_sim w S i n r m same-editor reach s A rest on_roster = record {
     logs = M.logs;
     reached = M.reached;
     sound = at_two (λ j r' acc. Sound before r' acc (M.logs j)) w.replicas w.accepted i _ _
         (subst (Sound before r (w.accepted i ++ (m.edit ∷ []))) (sym M.there_now) A.sound)
         (λ j ne. subst (Sound before (w.replicas j) (w.accepted j)) (sym (M.elsewhere j ne ∙ at_other S.logs i _ j ne)) (S.sound j));
     settled = at_all Settled w.replicas i r rest S.settled;
+    roster = at_two (λ j r' acc. Rostered r' acc) w.replicas w.accepted i _ _ on_roster (λ j ne. S.roster j);
     owner = at_each (λ j r'. r'.editor ≡ Some j) w.replicas i r (same-editor ∙ S.owner i) (λ j ne. S.owner j);
     honest = at_all (λ (acc : List (Edit E)). acc ⊆ edits_of (w.makings ++ (m ∷ []))) w.accepted i _ (λ d k. own d (in_snoc (w.accepted i) m.edit k)) (λ j d k. wider d (S.honest j d k));
     edits = λ d k. each d (in_snoc (edits_of w.makings) m.edit (subst (λ (l : List (Edit E)). d ∈ l) same k));
@@ -191,6 +197,7 @@ module _ {E X : Type 0} (before : Id → Id → Bool) (meaning : X → Edit E) w
     own_sim (Some f) m c p reach F = subst Sim (sym (unedited w i f)) S
     own_sim None m c p reach F = made_sim w S i (applied_with before m.edit (w.replicas i)) (settled before m.edit (w.replicas i)) m (commit_editor before None m (w.replicas i)) (reach refl).0
         (subst SoundEdit (sym p) (own_sound (S.sound i) i ed (S.owner i) c (reach refl).1)) F.after F.settled
+        (commit_rostered before None m (w.replicas i) (w.accepted i) (S.owner i ∙ ap (λ (e : Edit E). Some e.id.editor) (sym p)) (S.roster i))
 
     insert_sim : (k : ℕ) (x : E) → Sim (after_edit w i (insert before k x (w.replicas i)))
     insert_sim k x = own_sim (no_insert k r) (own_insertion k x r) (insertion_at k x (tree before (S.logs i))) (ap making_edit is) reach (insert_edits (S.sound i) i ed (S.owner i) (S.settled i) k x)
@@ -249,6 +256,7 @@ module _ {E X : Type 0} (before : Id → Id → Bool) (meaning : X → Edit E) w
     reached = S.reached;
     sound = S.sound;
     settled = S.settled;
+    roster = S.roster;
     owner = S.owner;
     honest = S.honest;
     edits = S.edits;
@@ -260,11 +268,11 @@ module _ {E X : Type 0} (before : Id → Id → Bool) (meaning : X → Edit E) w
   taken_known w S c n k t r m = S.records c r (subst (λ (p : List Bytes). r ∈ p) t.put m)
 
   sent_known : (w : World E X) (S : Sim w) (c : ℕ) (xs rest : List X) (rs : List Bytes) (k : Channel) → ((x : X) → x ∈ xs → meaning x ∈ edits_of w.makings)
-      → Sent (w.lines c).format (w.lines c).holds xs k rs rest → Known meaning (edits_of w.makings) (record { format = (w.lines c).format; holds = k })
-  sent_known w S c xs rest rs k made sent r m ys q x o =
+      → AllFit (w.lines c).format xs → Sent (w.lines c).format (w.lines c).holds xs k rs rest → Known meaning (edits_of w.makings) (record { format = (w.lines c).format; holds = k })
+  sent_known w S c xs rest rs k made fit sent r m ys q x o =
       elim (in_split (w.lines c).holds.put rs (subst (λ (p : List Bytes). r ∈ p) (all_put (w.lines c).holds sent.puts) m)) [
         | inl a ↦ S.records c r a ys q x o
-        | inr b ↦ made x ((pieces (w.lines c).format (S.formats c) xs sent.cut).read r b ys q x o)
+        | inr b ↦ made x ((pieces (w.lines c).format (S.formats c) xs fit sent.cut).read r b ys q x o)
       ]
 
   fetch_sim : (w : World E X) (S : Sim w) (i c n : ℕ) (k : Channel) (xs : List X) → Taken (w.lines c).holds n k
@@ -276,6 +284,7 @@ module _ {E X : Type 0} (before : Id → Id → Bool) (meaning : X → Edit E) w
         (subst (Sound before intake.replica (w.accepted i ++ intake.accepted)) (sym M.there_now) F.after.sound)
         (λ j ne. subst (Sound before (w.replicas j) (w.accepted j)) (sym (M.elsewhere j ne)) (S.sound j));
     settled = at_all Settled w.replicas i _ F.settled S.settled;
+    roster = at_two (λ j r acc. Rostered r acc) w.replicas w.accepted i _ _ (all_rostered before es (w.replicas i) (w.accepted i) (S.roster i)) (λ j ne. S.roster j);
     owner = at_each (λ j r. r.editor ≡ Some j) w.replicas i _ (take_all_editor before es (w.replicas i) ∙ S.owner i) (λ j ne. S.owner j);
     honest = at_all (λ (acc : List (Edit E)). acc ⊆ edits_of w.makings) w.accepted i _ all_made S.honest;
     edits = S.edits;
@@ -305,7 +314,7 @@ module _ {E X : Type 0} (before : Id → Id → Bool) (meaning : X → Edit E) w
   pub step_sim : (w : World E X) → Sim w → {w' : World E X} → Step before meaning w w' → Sim w'
   step_sim w S (worlds.inserts i k x ed) = insert_sim w S i ed k x
   step_sim w S (worlds.deletes i k ed) = delete_sim w S i ed k
-  step_sim w S (sends c xs rest rs k made sent) = send_sim w S c k (sent_known w S c xs rest rs k made sent)
+  step_sim w S (sends c xs rest rs k made fit sent) = send_sim w S c k (sent_known w S c xs rest rs k made fit sent)
   step_sim w S (fetches i c n k xs ed t q) = fetch_sim w S i c n k xs t q
   step_sim w S (misreads c n k t q) = send_sim w S c k (taken_known w S c n k t)
   step_sim w S (finds_none c q) = S

@@ -14,7 +14,7 @@ use Rattle.order.proofs.Lists.{any_false, in_left, in_last, in_snoc, Distinct, i
 use Rattle.order.proofs.Growing.{Effect, grew_length, effect}
 use Rattle.order.proofs.Histories.{tree_snoc, in_ids, of_ids, ids_snoc, count_own, count_other, counted, next_number}
 use Rattle.order.proofs.Entries.{entries}
-use Rattle.runs.specs.Replicas.{Editor, most_editors, Replica, within, with_shelf, inserts, waits, is_known, ready, full, Pick, nothing, picked, pick, applied, go_on, release}
+use Rattle.runs.specs.Replicas.{Editor, most_editors, Replica, with_shelf, inserts, waits, is_known, ready, Pick, nothing, picked, pick, applied, go_on, release}
 use Rattle.runs.specs.Promises.{SoundEdit}
 use Rattle.runs.proofs.Tests.{within_each, each_within, one_if, Picked, Picks, picks}
 

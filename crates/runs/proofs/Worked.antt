@@ -1,5 +1,5 @@
 -- The worked run, by computing.
-use Rattle.std.proofs.Common.{◌≡◌, ℕ, suc, ◌-◌, ◌<◌, ◌≤◌, Bool, true, false, cond, eqb, ◌⊎◌, List, [], ◌∷◌, ◌++◌, map, length, get_or, set, Some, sym, refl, ap, ◌∙◌, subst, inl, inr, arith}
+use Rattle.std.proofs.Common.{◌≡◌, ℕ, suc, ◌-◌, ◌<◌, ◌≤◌, Bool, true, false, cond, eqb, leb, ◌⊎◌, List, [], ◌∷◌, ◌++◌, map, length, get_or, set, Some, sym, refl, ap, ◌∙◌, subst, inl, inr, arith}
 use mathlib.Core.Path.{fun_ext}
 use Rattle.edits.specs.declared.edit.Edit.{Edit as Carried}
 use Rattle.edits.specs.Ids.{precedes}
@@ -8,7 +8,7 @@ use Rattle.order.specs.Edits.{Clock, Edit}
 use Rattle.order.specs.Systems.{edits_of}
 use Rattle.order.proofs.Ids.{either, eqb_eq, eqb_same, eqb_apart, not_both}
 use Rattle.runs.specs.Replicas.{within, new, insert, delete, take_all}
-use Rattle.runs.specs.Channels.{Bytes, Channel, empty, Put, uncut, one_cut, none_put, one_put, Sent}
+use Rattle.runs.specs.Channels.{Bytes, Channel, AllFit, Put, uncut, one_cut, none_put, one_put, Sent}
 use Rattle.runs.specs.Worlds.{World, Fresh, after_edit, after_send, after_fetch, inserts, deletes, sends, fetches, no_call, then}
 use Rattle.runs.specs.Carried.{edit_of}
 use Rattle.runs.specs.Numbers.{put_edit, numbers}
@@ -20,6 +20,13 @@ use Rattle.runs.proofs.Numbers.{numbers_lawful}
 
 abbrev records : List Bytes
 records = put_edit second ∷ put_edit first ∷ put_edit second ∷ put_edit third ∷ []
+
+-- a channel that can hold any record of up to 1,024 bytes
+abbrev can_hold : ℕ → Bool
+can_hold n = leb n 1024
+
+abbrev empty : Channel
+empty = record { put = []; handed = []; coming = 0; can_hold = can_hold }
 
 abbrev start : World ℕ (Carried ℕ)
 start = record { replicas = λ i. new (Some i) 9 9; lines = λ c. record { format = numbers; holds = empty }; makings = []; accepted = λ i. [] }
@@ -34,11 +41,11 @@ abbrev three : World ℕ (Carried ℕ)
 three = after_edit typed 1 (delete precedes 0 (typed.replicas 1))
 
 abbrev sent : World ℕ (Carried ℕ)
-sent = after_send three 0 (record { put = records; handed = false ∷ false ∷ false ∷ false ∷ []; coming = 4 })
+sent = after_send three 0 (record { put = records; handed = false ∷ false ∷ false ∷ false ∷ []; coming = 4; can_hold = can_hold })
 
 -- the record n is handed out
 abbrev handing_out : Channel → ℕ → Channel
-handing_out h n = record { put = h.put; handed = set h.handed n true; coming = h.coming - 1 }
+handing_out h n = record { put = h.put; handed = set h.handed n true; coming = h.coming - 1; can_hold = h.can_hold }
 
 -- editor 2 fetches the record n, which holds x
 abbrev fetched : World ℕ (Carried ℕ) → ℕ → Carried ℕ → World ℕ (Carried ℕ)
@@ -99,27 +106,44 @@ meant x m = rw made (at m)
 -- THE CALLS
 
 fresh : Fresh start
-fresh = record { replicas = λ i. (9, 9, refl); channels = λ c. refl; formats = λ c. numbers_lawful; none_made = refl; none_accepted = λ i. refl }
+fresh = record { replicas = λ i. (9, 9, refl); channels = λ c. record { put = refl; handed = refl; coming = refl }; formats = λ c. numbers_lawful; none_made = refl; none_accepted = λ i. refl }
 
 -- a record put, with one answer more to come
 abbrev with_record : Channel → Bytes → Channel
-with_record h r = record { put = h.put ++ (r ∷ []); handed = h.handed ++ (false ∷ []); coming = suc h.coming }
+with_record h r = record { put = h.put ++ (r ∷ []); handed = h.handed ++ (false ∷ []); coming = suc h.coming; can_hold = h.can_hold }
 
-put : (h : Channel) (r : Bytes) → Put h r (with_record h r)
-put h r = record { put = refl; handed = refl; more = omega arith }
+put : (h : Channel) (r : Bytes) → h.can_hold (length r) ≡ true → length r ≤ 1024 → Put h r (with_record h r)
+put h r held few = record { held = held; few_bytes = few; put = refl; handed = refl; more = omega arith }
 
 -- four edits make four records
 all_sent : Sent numbers empty carried (sent.lines 0).holds records []
 all_sent = record {
   cut = one_cut (one_cut (one_cut (one_cut uncut (omega arith)) (omega arith)) (omega arith)) (omega arith);
-  puts = one_put (one_put (one_put (one_put none_put (put _ _)) (put _ _)) (put _ (put_edit second))) (put _ (put_edit third));
+  puts = one_put (one_put (one_put (one_put none_put (put empty (put_edit second) refl (omega arith)))
+      (put _ (put_edit first) refl (omega arith))) (put _ (put_edit second) refl (omega arith))) (put _ (put_edit third) refl (omega arith));
+  ends = inl refl;
 }
+
+fits : AllFit numbers carried
+fits x (here p) = ap numbers.fits p
+fits x (there (here p)) = ap numbers.fits p
+fits x (there (there (here p))) = ap numbers.fits p
+fits x (there (there (there (here p)))) = ap numbers.fits p
+fits x (there (there (there (there m)))) = elim m [ ]
 
 -- one call leads to the world after the fetch
 fetch : (w : World ℕ (Carried ℕ)) (n : ℕ) (x : Carried ℕ) → n < length (w.lines 0).holds.put → 1 ≤ (w.lines 0).holds.coming
-    → (w.lines 0).format.reads (get_or (w.lines 0).holds.put n []) ≡ Some (x ∷ []) → Later w (fetched w n x)
-fetch w n x place some e =
-    then no_call (fetches 2 0 n _ (x ∷ []) (omega arith) (record { place = place; put = refl; handed = refl; fewer = omega arith }) e)
+    → (w.lines 0).format.reads (get_or (w.lines 0).holds.put n []) ≡ Some (x ∷ [])
+    → ((w.lines 0).holds.coming ≡ 1 → (b : Bool) → b ∈ set (w.lines 0).holds.handed n true → b ≡ true) → Later w (fetched w n x)
+fetch w n x place some e last =
+    then no_call (fetches 2 0 n _ (x ∷ []) (omega arith) (record { place = place; put = refl; handed = refl; fewer = omega arith; last = λ q. last (omega (arith, q)) }) e)
+
+all_handed : (b : Bool) → b ∈ (true ∷ true ∷ true ∷ true ∷ []) → b ≡ true
+all_handed b (here p) = p
+all_handed b (there (here p)) = p
+all_handed b (there (there (here p))) = p
+all_handed b (there (there (there (here p)))) = p
+all_handed b (there (there (there (there m)))) = elim m [ ]
 
 pub worked : Worked "B"
 unfolding within
@@ -129,27 +153,27 @@ worked = record {
   typed_at_1 = (refl, refl);
   typed_at_2 = (refl, refl);
   sent = sent;
-  sends = then (then no_call (deletes 1 0 (omega arith))) (sends 0 carried [] records _ meant all_sent);
+  sends = then (then no_call (deletes 1 0 (omega arith))) (sends 0 carried [] records _ meant fits all_sent);
   made = made;
   format = refl;
   records = refl;
   sent_at_1 = (refl, refl);
   sent_at_2 = (refl, refl);
   early = early;
-  fetches_second = fetch sent 0 second (omega arith) (omega arith) refl;
+  fetches_second = fetch sent 0 second (omega arith) (omega arith) refl (λ q. let no : ⊥ = omega (arith, q) in absurd no);
   early_at_1 = (refl, refl);
   early_at_2 = (refl, refl);
   applied = applied;
-  fetches_first = fetch early 1 first (omega arith) (omega arith) refl;
+  fetches_first = fetch early 1 first (omega arith) (omega arith) refl (λ q. let no : ⊥ = omega (arith, q) in absurd no);
   applied_at_1 = (refl, refl);
   applied_at_2 = (refl, refl);
   again = again;
-  fetches_again = fetch applied 2 second (omega arith) (omega arith) refl;
+  fetches_again = fetch applied 2 second (omega arith) (omega arith) refl (λ q. let no : ⊥ = omega (arith, q) in absurd no);
   again_at_1 = (refl, refl);
   again_at_2 = (refl, refl);
   unchanged = refl;
   last = last;
-  fetches_third = fetch again 3 third (omega arith) (omega arith) refl;
+  fetches_third = fetch again 3 third (omega arith) (omega arith) refl (λ q. all_handed);
   last_at_1 = (refl, refl);
   last_at_2 = (refl, refl);
   counts_at_1 = (refl, refl);

@@ -1,6 +1,7 @@
 -- A format over the carried edits, one edit to a record, so that no statement over all lawful formats holds for want of one.
--- Its record is a list of numbers, not of bytes: a number stands there whole, however great it is. It is no format for use.
-use Rattle.std.specs.Prelude.{◌≡◌, ℕ, zero, suc, Bool, true, false, List, [], ◌∷◌, Some, None, Option, refl}
+-- A number of the edit is one byte of its record. So it can carry only edits whose numbers are all bytes, and is no format for use.
+use Rattle.std.specs.Prelude.{◌≡◌, ℕ, zero, suc, Bool, true, false, List, [], ◌∷◌, Some, None, Option, refl, nat_le}
+use Rattle.std.specs.List.{list_all}
 use Rattle.edits.specs.declared.id.Id.{Id}
 use Rattle.edits.specs.declared.clock.Pair.{Pair}
 use Rattle.edits.specs.declared.clock.Clock.{Clock}
@@ -115,5 +116,9 @@ abbrev pub put_first : List (Carried ℕ) → Bytes × ℕ
 put_first [] = ([], 0)
 put_first (x ∷ xs) = (put_edit x, 1)
 
+-- all numbers of the edit are bytes
+abbrev pub small : Carried ℕ → Bool
+small x = list_all (λ n. nat_le n 255) (put_edit x)
+
 abbrev pub numbers : Format (Carried ℕ)
-numbers = record { packs = put_first; reads = get_edit }
+numbers = record { fits = small; packs = put_first; reads = get_edit }

@@ -1,5 +1,5 @@
 -- The known stations: small courses of editing whose outcome can be told beforehand, worked out on the functions of a replica.
-use Rattle.std.specs.Prelude.{◌≡◌, ℕ, suc, Bool, cond, List, [], ◌∷◌, ◌++◌, map, length, Some, None, codes, ◌==◌, slice_index}
+use Rattle.std.specs.Prelude.{◌≡◌, ℕ, suc, Bool, cond, List, [], ◌∷◌, ◌++◌, map, length, Some, None, Ok, codes, ◌==◌, slice_index}
 use Prim.Native.String.{String}
 use Rattle.edits.specs.declared.id.Id.{Id}
 use Rattle.edits.specs.declared.fault.Fault.TheVariants.{IndexTooLarge}
@@ -129,8 +129,8 @@ pub record Stations (before : Id → Id → Bool) : Type 0 where
       let late : Intake ℕ = take_all before one.made early.replica in
       (said two.made ≡ (2 · 1, insertion (Entry (1 · 1)) Right (letter "B")) ∷ [])
       × (counted 1 two.made ≡ 1 ∷ []) × (counted 2 two.made ≡ 0 ∷ [])
-      × (early.answer ≡ taken 0) × (length early.replica.shelf ≡ 1) × (shows early.replica ≡ [])
-      × (late.answer ≡ taken 2) × (length late.replica.shelf ≡ 0) × (shows late.replica ≡ codes "AB")
+      × (early.answer ≡ Ok 0) × (length early.replica.shelf ≡ 1) × (shows early.replica ≡ [])
+      × (late.answer ≡ Ok 2) × (length late.replica.shelf ≡ 0) × (shows late.replica ≡ codes "AB")
   -- 8. 1.2 deletes 1.1, and 2.1 deletes 1.2: a replica without an editor takes them in one after another. All are applied and counted,
   -- but 2.1 is without effect, since 1.2 is no entry: nothing is shown, one entry is held, and the tree is the same before and after 2.1.
   pub no_entry_no_effect :
@@ -139,7 +139,7 @@ pub record Stations (before : Id → Id → Bool) : Type 0 where
       let last : Replica ℕ × Answer = take_in before stray first.replica in
       (said one.made ≡ (1 · 1, insertion Start Right (letter "A")) ∷ (1 · 2, deletion (1 · 1)) ∷ [])
       × Lawful stray
-      × (first.answer ≡ taken 2) × (last.1 ≡ taken 1)
+      × (first.answer ≡ Ok 2) × (last.1 ≡ taken 1)
       × (last.0.clock 1 ≡ 2) × (last.0.clock 2 ≡ 1)
       × (shows last.0 ≡ []) × (length (read last.0.forest) ≡ 1)
       × (last.0.forest ≡ first.replica.forest)

@@ -2,6 +2,7 @@
 //! in specs/. `before` is any order of siblings, `T` any type of elements, `X` any type of edits that channels carry, and
 //! `meaning` says which edit a carried one is.
 #![tactic(auto)]
+
 ghost use Rattle.std.specs.Prelude.{◌≡◌, ℕ, Bool, List};
 ghost use Rattle.edits.specs.declared.id.Id.{Id};
 ghost use Rattle.edits.specs.declared.edit.Edit.{Edit as Carried};
