@@ -1,4 +1,5 @@
--- Cells and their bytes.
+-- Cells and their bytes: the proofs of the laws that cells owe as a kind. They stand in specs/ since an impl can name
+-- nothing else; what contracts cite is in Cells, Fours and Bytes.
 use Rattle.std.specs.Prelude.{◌≡◌, ℕ, ◌+◌, ◌^◌, ◌<◌, Bool, true, false, cond, not, ◌&&◌, T, List, ◌∷◌, ◌++◌, length, Some, None, Option, ◌==◌, from_bits, slice_index, to_bits, refl, Float}
 use Rattle.std.proofs.Common.{sym, ap, subst, ◌∙◌, arith, eq-eqb, eqb-true}
 use Rattle.std.proofs.Math.Bool.{Bool-set}

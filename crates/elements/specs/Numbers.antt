@@ -1,4 +1,5 @@
--- Four bytes and the number that they stand for.
+-- Four bytes and the number that they stand for: the proofs of the laws that characters owe as a kind, and lemmas for
+-- those of cells. They stand in specs/ since an impl can name nothing else; what contracts cite is in Fours and Bytes.
 use Rattle.std.specs.Prelude.{◌≡◌, ℕ, zero, suc, ◌+◌, ◌*◌, ◌/◌, ◌%◌, ◌^◌, ◌<◌, Bool, true, false, cond, ◌&&◌, List, [], ◌∷◌, length, Some, None, ◌==◌, ◌≢◌, slice_index, refl}
 use Rattle.std.proofs.Common.{sym, ap, ◌∙◌, arith, eqb-true}
 use Rattle.std.proofs.Math.Nat.{div-add-mod, div-div-eq-div-mul}

@@ -1,7 +1,7 @@
 //! Cells in thirteen bytes: the character, the style, and the bits of the two floats, the highest byte first.
 ghost use Rattle.elements.specs.Cells.{cell_bytes, cell_of, cell_proper};
 ghost use Rattle.elements.specs.CellBytes.{cell_back, cell_exact};
-ghost use Rattle.std.proofs.Common.{rules, arith};
+ghost use Rattle.std.proofs.Common.{rules};
 
 use crate::cell::Cell;
 use crate::floats::{bits, finite_float, number};
@@ -22,11 +22,11 @@ impl Kind for Cell {
 
     ghost proper = { cell_proper };
 
-    ghost least = { first_of (Prim.search rules, Prim.grind (arith, Self.row.coded.inj)) };
+    ghost least = { Prim.search rules };
 
-    ghost most = { first_of (Prim.search rules, Prim.grind (arith, Self.row.coded.inj)) };
+    ghost most = { Prim.search rules };
 
-    ghost sized = { first_of (Prim.search rules, Prim.grind (arith, Self.row.coded.inj)) };
+    ghost sized = { Prim.search rules };
 
     ghost back = { λ x h. cell_back x h };
 
