@@ -76,11 +76,11 @@ pub data Pick (E : Type 0) : Type 0 where
 
 -- the tests of taking in, in turn
 abbrev pub judged : Id → Bool → Bool → Bool → Bool → Bool → Verdict
-judged id is_known crowded slotless is-ready no_room =
+judged id is_known crowded slotless is_ready no_room =
     cond is_known knows
     (cond crowded (refuses (RosterFull id))
     (cond slotless (refuses (SlotsFull id))
-    (cond is-ready applies
+    (cond is_ready applies
     (cond no_room (refuses (ShelfFull id)) shelves))))
 
 -- the tests of insert and delete, in turn
