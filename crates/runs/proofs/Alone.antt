@@ -187,15 +187,16 @@ module _ {E : Type 0} where
   sum_applied : {before : Id → Id → Bool} {r : Replica E} {acc log : List (Edit E)} → Sound before r acc log → total 255 r.clock ≡ length log
   sum_applied S = ap (total 255) S.clock ∙ total_length S.history S.makers
 
+  sum_grows : {before : Id → Id → Bool} {r r' : Replica E} {acc acc' log log' : List (Edit E)} (n : ℕ) → Sound before r acc log → Sound before r' acc' log'
+      → length log' ≡ length log + n → total 255 r'.clock ≡ total 255 r.clock + n
+  sum_grows n S S' grows = sum_applied S' ∙ grows ∙ ap (λ (m : ℕ). m + n) (sym (sum_applied S))
+
 pub kept_alone : {E : Type 0} {before : Id → Id → Bool} {r : Replica E} {acc : List (Edit E)} → Fed before r acc → KeptAlone before r acc
 kept_alone fed = let F = fine fed in record {
   document = document F.sound F.settled F.roster;
-  grows = λ e s n q. let T = takes F.sound F.settled e s in
-      sum_applied T.after.sound ∙ T.grows n q ∙ ap (λ (m : ℕ). m + n) (sym (sum_applied F.sound));
-  insert_grows = λ i k n x m ed owner q. let T = insert_edits F.sound i ed owner F.settled k x in
-      sum_applied T.after.sound ∙ T.grows m n q ∙ ap (λ (j : ℕ). j + n) (sym (sum_applied F.sound));
-  delete_grows = λ i k n m ed owner q. let T = delete_edits F.sound i ed owner F.settled k in
-      sum_applied T.after.sound ∙ T.grows m n q ∙ ap (λ (j : ℕ). j + n) (sym (sum_applied F.sound));
+  grows = λ e s n q. let T = takes F.sound F.settled e s in sum_grows n F.sound T.after.sound (T.grows n q);
+  insert_grows = λ i k n x m ed owner q. let T = insert_edits F.sound i ed owner F.settled k x in sum_grows n F.sound T.after.sound (T.grows m n q);
+  delete_grows = λ i k n m ed owner q. let T = delete_edits F.sound i ed owner F.settled k in sum_grows n F.sound T.after.sound (T.grows m n q);
   inserted = λ i k n x m ed owner q. let u = puts_at F.sound i ed owner k n x m q in (u.1, u.2);
   deleted = λ i k n m ed owner q. let u = hides_at F.sound i ed owner k n m q in (u.1, u.2);
 }

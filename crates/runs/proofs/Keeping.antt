@@ -12,14 +12,19 @@ use Rattle.runs.proofs.Sound.{Onward, stays, on, on_as, Sound, Settled, After}
 use Rattle.runs.proofs.Calls.{Takes, takes}
 
 module _ {E : Type 0} (before : Id → Id → Bool) where
+  -- what stays as it is when an edit leaves the shelf and is applied stays so over a release
+  pub release_keeps : {A : Type 0} (part : Replica E → A) → ((e : Edit E) (others : List (Edit E)) (r : Replica E) → part (applied before e (with_shelf others r)) ≡ part r)
+      → (n : ℕ) (r : Replica E) → part (release before n r) ≡ part r
+  release_keeps part keeps zero r = refl
+  release_keeps {A} part keeps (suc n) r = go (pick (ready r) r.shelf) (release_keeps part keeps n)
+    where
+      go : (k : Pick E) → ((r' : Replica E) → part (release before n r') ≡ part r') → part (go_on before k r (release before n)) ≡ part r
+      go nothing ih = refl
+      go (picked e others) ih = ih (applied before e (with_shelf others r)) ∙ keeps e others r
+
   -- no call changes whose replica it is
   pub release_editor : (n : ℕ) (r : Replica E) → (release before n r).editor ≡ r.editor
-  release_editor zero r = refl
-  release_editor (suc n) r = go (pick (ready r) r.shelf) (release_editor n)
-    where
-      go : (k : Pick E) → ((r' : Replica E) → (release before n r').editor ≡ r'.editor) → (go_on before k r (release before n)).editor ≡ r.editor
-      go nothing ih = refl
-      go (picked e others) ih = ih (applied before e (with_shelf others r))
+  release_editor = release_keeps (λ r. r.editor) (λ e others r. refl)
 
   judge_editor : (v : Verdict) (e : Edit E) (r : Replica E) → (judge before v e r).0.editor ≡ r.editor
   judge_editor knows e r = refl

@@ -1,5 +1,5 @@
 -- On the roster of a replica stand its own editor and the editors of all edits that it has accepted.
-use Rattle.std.proofs.Common.{◌≡◌, ℕ, zero, suc, Bool, true, false, cond, eqb, ltb, ◌⊎◌, ◌↔◌, List, [], ◌∷◌, ◌++◌, length, Some, None, Option, sym, refl, ap, ◌∙◌, subst, inl, inr, append_assoc, append-nil}
+use Rattle.std.proofs.Common.{◌≡◌, ℕ, Bool, true, false, cond, eqb, ltb, ◌⊎◌, ◌↔◌, List, [], ◌∷◌, ◌++◌, length, Some, None, Option, sym, refl, ap, ◌∙◌, subst, inl, inr, append_assoc, append-nil}
 use Rattle.edits.specs.declared.id.Id.{Id}
 use Rattle.edits.specs.declared.fault.Fault.{Fault}
 use Rattle.order.specs.Lists.{◌∈◌, here, there}
@@ -7,10 +7,10 @@ use Rattle.order.specs.Edits.{Edit}
 use Rattle.order.specs.Systems.{Making, edits_of}
 use Rattle.order.proofs.Ids.{either, eqb_eq}
 use Rattle.order.proofs.Lists.{any_true, in_left, in_last, in_snoc, in_nil}
-use Rattle.runs.specs.Replicas.{Replica, new, placed, with_shelf, ready, listed, enrolled, Verdict, knows, refuses, applies, shelves, Answer, known, refused, taken, Pick, nothing, picked, pick, verdict, applied, go_on, release, judge, take_in, commit, after_one, take_all}
+use Rattle.runs.specs.Replicas.{Replica, new, placed, with_shelf, listed, enrolled, Verdict, knows, refuses, applies, shelves, Answer, known, refused, taken, verdict, applied, release, judge, take_in, commit, after_one, take_all}
 use Rattle.runs.specs.Worlds.{made_by}
 use Rattle.runs.specs.Promises.{Rostered, accepted_by}
-use Rattle.runs.proofs.Keeping.{release_editor}
+use Rattle.runs.proofs.Keeping.{release_keeps, release_editor}
 
 -- who stands in a list into which i is put
 of_placed : (i : ℕ) (js : List ℕ) (j : ℕ) → j ∈ placed i js → (j ∈ js) ⊎ (j ≡ i)
@@ -91,16 +91,8 @@ module _ {E : Type 0} where
 
   module _ (before : Id → Id → Bool) where
     -- nobody joins by what is released
-    release_roster : (n : ℕ) (r : Replica E) → (release before n r).roster ≡ r.roster
-    release_roster zero r = refl
-    release_roster (suc n) r = go (pick (ready r) r.shelf) (release_roster n)
-      where
-        go : (k : Pick E) → ((r' : Replica E) → (release before n r').roster ≡ r'.roster) → (go_on before k r (release before n)).roster ≡ r.roster
-        go nothing ih = refl
-        go (picked e others) ih = ih (applied before e (with_shelf others r))
-
     released_joins : (i n : ℕ) (js : List ℕ) (r : Replica E) → Joins i js r.roster → Joins i js (release before n r).roster
-    released_joins i n js r joins = subst (λ (k : List ℕ). Joins i js k) (sym (release_roster n r)) joins
+    released_joins i n js r joins = subst (λ (k : List ℕ). Joins i js k) (sym (release_keeps before (λ r. r.roster) (λ e others r. refl) n r)) joins
 
     judge_rostered : (v : Verdict) (e : Edit E) (r : Replica E) (acc : List (Edit E)) → Rostered r acc
         → Rostered (judge before v e r).0 (acc ++ accepted_by (judge before v e r).1 e)

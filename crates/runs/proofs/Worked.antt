@@ -138,6 +138,10 @@ fetch : (w : World ℕ (Carried ℕ)) (n : ℕ) (x : Carried ℕ) → n < length
 fetch w n x place some e last =
     then no_call (fetches 2 0 n _ (x ∷ []) (omega arith) (record { place = place; put = refl; handed = refl; fewer = omega arith; last = λ q. last (omega (arith, q)) }) e)
 
+-- more than one answer is to come
+not_one : {A : Type 0} {n : ℕ} → 2 ≤ n → n ≡ 1 → A
+not_one le q = let no : ⊥ = omega (arith, le, q) in absurd no
+
 all_handed : (b : Bool) → b ∈ (true ∷ true ∷ true ∷ true ∷ []) → b ≡ true
 all_handed b (here p) = p
 all_handed b (there (here p)) = p
@@ -160,15 +164,15 @@ worked = record {
   sent_at_1 = (refl, refl);
   sent_at_2 = (refl, refl);
   early = early;
-  fetches_second = fetch sent 0 second (omega arith) (omega arith) refl (λ q. let no : ⊥ = omega (arith, q) in absurd no);
+  fetches_second = fetch sent 0 second (omega arith) (omega arith) refl (not_one (omega arith));
   early_at_1 = (refl, refl);
   early_at_2 = (refl, refl);
   applied = applied;
-  fetches_first = fetch early 1 first (omega arith) (omega arith) refl (λ q. let no : ⊥ = omega (arith, q) in absurd no);
+  fetches_first = fetch early 1 first (omega arith) (omega arith) refl (not_one (omega arith));
   applied_at_1 = (refl, refl);
   applied_at_2 = (refl, refl);
   again = again;
-  fetches_again = fetch applied 2 second (omega arith) (omega arith) refl (λ q. let no : ⊥ = omega (arith, q) in absurd no);
+  fetches_again = fetch applied 2 second (omega arith) (omega arith) refl (not_one (omega arith));
   again_at_1 = (refl, refl);
   again_at_2 = (refl, refl);
   unchanged = refl;
