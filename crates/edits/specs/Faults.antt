@@ -83,9 +83,10 @@ abbrev pub spot_text : Spot → List ℕ
 spot_text (Number at) = decimal at
 spot_text (Edit id) = id_text id
 
-abbrev pub line_text : ℕ → List ℕ → List ℕ → List ℕ
-line_text number layer spot = codes "fault " ++ (decimal number ++ (codes " " ++ (layer ++ (codes " " ++ (spot ++ codes "\n")))))
+-- a fault without the end of its line
+abbrev pub fault_text : Fault → List ℕ
+fault_text f = codes "fault " ++ (decimal (number_of f) ++ (codes " " ++ (word_of (layer_of f) ++ (codes " " ++ spot_text (spot_of f)))))
 
 -- the line of a fault
 abbrev pub fault_line : Fault → List ℕ
-fault_line f = line_text (number_of f) (word_of (layer_of f)) (spot_text (spot_of f))
+fault_line f = fault_text f ++ codes "\n"

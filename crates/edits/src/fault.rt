@@ -1,5 +1,13 @@
-//! Why a call was refused.
+//! Why a call was refused: the listing of the faults with number, layer and spot of each case, and the line that is
+//! printed of it.
+ghost use Rattle.std.specs.Prelude.{◌≡◌, IfOk, Some, string_bytes};
+ghost use Rattle.edits.specs.declared.fault.Fault.TheVariants.{NoMemory};
+ghost use Rattle.edits.specs.Faults.{number_of, layer_of, spot_of, word_of, spot_text, fault_text, fault_line};
+
 use crate::id::Id;
+use std::alloc::{AllocError, Global};
+use std::error::Error;
+use std::fmt;
 
 /// One case for each refusal, in the order of their numbers. `usize` values are offsets in the record or the input
 /// unless said otherwise; identifiers are those of the edit that was refused.
@@ -61,4 +69,150 @@ pub enum Layer {
 pub enum Spot {
     Number(usize),
     Edit(Id),
+}
+
+impl Fault {
+    /// The number of the refusal; 0 is want of memory.
+    pub fn number(self) -> u8
+        ensures { result ≡ number_of self }
+    {
+        match self {
+            Fault::NoMemory => 0,
+            Fault::Extent(_) => 1,
+            Fault::Mark(_) => 2,
+            Fault::Numbering(_) => 3,
+            Fault::Pairs(_) => 4,
+            Fault::Reference(_) => 5,
+            Fault::Element(_) => 6,
+            Fault::RunLength(_) => 7,
+            Fault::RosterFull(_) => 8,
+            Fault::SlotsFull(_) => 9,
+            Fault::ShelfFull(_) => 10,
+            Fault::OwnEditWaits => 11,
+            Fault::NumbersUsedUp => 12,
+            Fault::IndexTooLarge => 13,
+            Fault::ChannelFull(_) => 14,
+            Fault::WrongSize => 15,
+            Fault::LogHead(_) => 16,
+            Fault::StillWaiting(_) => 17,
+            Fault::OutsideLimits => 18,
+        }
+    }
+
+    /// The layer that refused.
+    pub fn layer(self) -> Layer
+        ensures { result ≡ layer_of self }
+    {
+        match self {
+            Fault::Extent(_)
+            | Fault::Mark(_)
+            | Fault::Numbering(_)
+            | Fault::Pairs(_)
+            | Fault::Reference(_)
+            | Fault::Element(_)
+            | Fault::RunLength(_) => Layer::Format,
+            Fault::RosterFull(_)
+            | Fault::SlotsFull(_)
+            | Fault::ShelfFull(_)
+            | Fault::OwnEditWaits
+            | Fault::NumbersUsedUp
+            | Fault::IndexTooLarge => Layer::Replica,
+            Fault::ChannelFull(_) => Layer::Channel,
+            Fault::LogHead(_) | Fault::StillWaiting(_) => Layer::Merge,
+            Fault::NoMemory | Fault::WrongSize | Fault::OutsideLimits => Layer::Caller,
+        }
+    }
+
+    /// What the refusal points at.
+    pub fn spot(self) -> Spot
+        ensures { result ≡ spot_of self }
+    {
+        match self {
+            Fault::Extent(at)
+            | Fault::Mark(at)
+            | Fault::Numbering(at)
+            | Fault::Pairs(at)
+            | Fault::Reference(at)
+            | Fault::Element(at)
+            | Fault::RunLength(at)
+            | Fault::ChannelFull(at)
+            | Fault::LogHead(at) => Spot::Number(at),
+            Fault::RosterFull(id)
+            | Fault::SlotsFull(id)
+            | Fault::ShelfFull(id)
+            | Fault::StillWaiting(id) => { Spot::Edit(id) }
+            _ => Spot::Number(0),
+        }
+    }
+
+    /// The line that a program prints of the refusal: `fault`, number, layer and spot.
+    pub fn line(self, heap: Global) -> Result<String, AllocError>
+        ensures { IfOk result (λ s. string_bytes s ≡ fault_line self) }
+    {
+        format!(in heap; "{self}\n")
+    }
+}
+
+impl Layer {
+    /// The word that is printed for the layer.
+    pub fn word(self) -> &'static str
+        ensures { result.now ≡ word_of self }
+    {
+        match self {
+            Layer::Format => "format",
+            Layer::Replica => "replica",
+            Layer::Channel => "channel",
+            Layer::Merge => "merge",
+            Layer::Caller => "caller",
+        }
+    }
+}
+
+impl Spot {
+    /// What is printed for the spot: a number, or an identifier as `2.1`.
+    pub fn text(self, heap: Global) -> Result<String, AllocError>
+        ensures { IfOk result (λ s. string_bytes s ≡ spot_text self) }
+    {
+        self.to_string(heap)
+    }
+}
+
+impl fmt::Display for Fault {
+    ghost output = { λ x. Some (fault_text x) };
+
+    fn fmt<W: fmt::Write>(&self, f: &mut fmt::Formatter<W>) -> fmt::Result {
+        let number = self.number();
+        let layer = self.layer();
+        let spot = self.spot();
+        write!(f, "fault {number} {layer} {spot}")
+    }
+}
+
+impl fmt::Display for Layer {
+    ghost output = { λ x. Some (word_of x) };
+
+    fn fmt<W: fmt::Write>(&self, f: &mut fmt::Formatter<W>) -> fmt::Result {
+        f.write_str(self.word())
+    }
+}
+
+impl fmt::Display for Spot {
+    ghost output = { λ x. Some (spot_text x) };
+
+    fn fmt<W: fmt::Write>(&self, f: &mut fmt::Formatter<W>) -> fmt::Result {
+        match self {
+            Spot::Number(at) => write!(f, "{at}"),
+            Spot::Edit(id) => write!(f, "{id}"),
+        }
+    }
+}
+
+impl Error for Fault {}
+
+impl From<AllocError> for Fault {
+    ghost from_gives = { λ _ r. r ≡ NoMemory };
+
+    fn from(_e: AllocError) -> Fault {
+        Fault::NoMemory
+    }
 }

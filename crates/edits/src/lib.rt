@@ -2,12 +2,9 @@
 #![tactic(auto)]
 
 mod clock;
-mod clocks;
 mod edit;
 mod fault;
-mod faults;
 mod id;
-mod ids;
 mod making;
 mod pairs;
 
