@@ -1,5 +1,5 @@
 -- Three tests in a row.
-use Rattle.std.proofs.Common.{◌≡◌, Bool, true, false, ◌&&◌, sym, refl}
+use Rattle.std.proofs.Common.{◌≡◌, Bool, true, false, ◌&&◌, refl}
 use borrow.Author.Tests.{clash}
 
 pub three : (a b c : Bool) → (a && (b && c)) ≡ true → (a ≡ true) × (b ≡ true) × (c ≡ true)
@@ -11,12 +11,8 @@ three false b c e = absurd (clash e)
 pub all_three : (a b c : Bool) → a ≡ true → b ≡ true → c ≡ true → (a && (b && c)) ≡ true
 all_three a b c p q r = rw (p, q, r)
 
--- the last one decides
-pub third_decides : (a b c : Bool) → a ≡ true → b ≡ true → (a && (b && c)) ≡ c
-third_decides a b c p q = rw (p, q)
-
--- one of the first two fails
-pub early_false : (a b c : Bool) → (a && b) ≡ false → false ≡ (a && (b && c))
-early_false true true c e = absurd (clash (sym e))
-early_false true false c e = refl
-early_false false b c e = refl
+-- the last one fails
+pub third_false : (a b c : Bool) → false ≡ c → false ≡ (a && (b && c))
+third_false true true c e = e
+third_false true false c e = refl
+third_false false b c e = refl

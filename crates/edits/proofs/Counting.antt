@@ -1,24 +1,36 @@
--- The count of an editor, found by a walk over the pairs.
-use Rattle.std.proofs.Common.{◌≡◌, ℕ, ◌+◌, ◌<◌, ◌≤◌, Bool, cond, eqb, List, length, get_or, drop, sym, ap, ◌∙◌, eq-eqb, ne_eqb}
-use Rattle.std.proofs.lemmas.List.{at_drop_more, at_drop_all}
+-- What a walk over the pairs of a clock finds: the first pair of an editor, and how many pairs come before it.
+use Rattle.std.proofs.Common.{◌≡◌, ℕ, suc, ◌+◌, Bool, true, false, cond, ◌==◌, List, [], ◌∷◌, Option, Some, None, MatchOption, nat_lt, refl, arith}
+use Rattle.std.specs.List.{find, prefix_len}
+use Rattle.std.specs.Option.{option_map}
+use denote.Ref.{Bor}
 use Rattle.edits.specs.declared.clock.Pair.{Pair}
-use Rattle.edits.specs.Pairs.{count_of}
+use Rattle.edits.specs.Pairs.{count_of, place_of}
 
+-- read where there is none
 abbrev pub no_pair : Pair
 no_pair = record { editor = 0; count = 0 }
 
-module _ (ps : List Pair) (e i : ℕ) (left : count_of (drop i ps) e ≡ count_of ps e) where
-  step : i < length ps → count_of (drop i ps) e ≡ cond (eqb (get_or ps i no_pair).editor e) (get_or ps i no_pair).count (count_of (drop (i + 1) ps) e)
-  step lt = at_drop_more (λ (qs : List Pair). count_of qs e) ps i no_pair lt
+-- what a pair counts, if there is one
+abbrev pub counted : Option Pair → ℕ
+counted None = 0
+counted (Some p) = p.count
 
-  -- the pair at i is the editor's
-  pub count_found : i < length ps → (get_or ps i no_pair).editor ≡ e → (get_or ps i no_pair).count ≡ count_of ps e
-  count_found lt is =
-      sym (sym left ∙ step lt ∙ ap (λ (v : Bool). cond v (get_or ps i no_pair).count (count_of (drop (i + 1) ps) e)) (eq-eqb (get_or ps i no_pair).editor e is))
+pub counted-find : (e : ℕ) (ps : List Pair) → counted (find (λ p. p.editor == e) ps) ≡ count_of ps e
+counted-find e [] = refl
+counted-find e (p ∷ ps) = by (p.editor == e) (counted-find e ps)
+  where
+    by : (v : Bool) → counted (find (λ p. p.editor == e) ps) ≡ count_of ps e → counted (cond v (Some p) (find (λ p. p.editor == e) ps)) ≡ cond v p.count (count_of ps e)
+    by true h = refl
+    by false h = h
 
-  pub count_more : i < length ps → ((get_or ps i no_pair).editor ≡ e → ⊥) → count_of (drop (i + 1) ps) e ≡ count_of ps e
-  count_more lt other =
-      sym (step lt ∙ ap (λ (v : Bool). cond v (get_or ps i no_pair).count (count_of (drop (i + 1) ps) e)) (ne_eqb (get_or ps i no_pair).editor e other)) ∙ left
+pub counted-read : {Q : Bor Pair → Type 0} (o : Option (Bor Pair)) (n : ℕ) → MatchOption o (n ≡ 0) Q → ((x : Bor Pair) → Q x → n ≡ x.now.count) → n ≡ counted (option_map (λ x. x.now) o)
+counted-read None n h k = h
+counted-read (Some x) n h k = k x h
 
-  pub count_all : length ps ≤ i → 0 ≡ count_of ps e
-  count_all le = sym (at_drop_all (λ (qs : List Pair). count_of qs e) ps i le) ∙ left
+pub prefix_len-place : (e : ℕ) (ps : List Pair) → prefix_len (λ p. nat_lt p.editor e) ps ≡ place_of e ps
+prefix_len-place e [] = refl
+prefix_len-place e (p ∷ ps) = by (nat_lt p.editor e) (prefix_len-place e ps)
+  where
+    by : (v : Bool) → prefix_len (λ p. nat_lt p.editor e) ps ≡ place_of e ps → cond v (1 + prefix_len (λ p. nat_lt p.editor e) ps) 0 ≡ cond v (suc (place_of e ps)) 0
+    by true h = omega (arith, h)
+    by false h = refl

@@ -72,10 +72,7 @@ impl<E> Edit<E> {
     pub fn is_insertion(&self) -> bool
         ensures { result ≡ is_insertion self.now }
     {
-        match self {
-            Edit::Insertion { .. } => true,
-            Edit::Deletion(_) => false,
-        }
+        matches!(self, Edit::Insertion { .. })
     }
 }
 
@@ -90,37 +87,25 @@ fn stamp_kept(id: Id, clock: &Clock) -> bool
 fn clock_kept(clock: &Clock) -> bool
     ensures { result ≡ clock_kept clock.now }
 {
-    let len = clock.len as usize;
-    if len > 16 {
-        return false;
+    match clock.pairs.split_at_checked(clock.len as usize) {
+        Some((listed, rest)) => ascends(listed) && all_unused(rest),
+        None => false,
     }
-    ascends(&clock.pairs[0..len]) && all_unused(&clock.pairs[len..16])
 }
 
 /// Whether the editors ascend from 1 on, and no count is 0.
 fn ascends(pairs: &[Pair]) -> bool
     ensures { result ≡ ascending 0 pairs.now }
 {
-    let mut last = 0;
-    for pair in pairs {
-        if pair.editor <= last || pair.count == 0 {
-            return false;
-        }
-        last = pair.editor;
-    }
-    true
+    pairs.iter().all(|p| p.editor > 0 && p.count > 0)
+        && pairs.is_sorted_by(|p, q| p.editor < q.editor)
 }
 
 /// Whether every pair is unused.
 fn all_unused(pairs: &[Pair]) -> bool
     ensures { result ≡ unused pairs.now }
 {
-    for pair in pairs {
-        if pair.editor != 0 || pair.count != 0 {
-            return false;
-        }
-    }
-    true
+    pairs.iter().all(|p| p.editor == 0 && p.count == 0)
 }
 
 /// Whether the clock counts the own editor's edits before this one, and names at most 16 editors with the own.
@@ -136,10 +121,7 @@ pub fn parent_kept(clock: &Clock, parent: Parent, side: Side) -> bool
     ensures { result ≡ parent_kept (pairs_of clock.now) parent side }
 {
     match parent {
-        Parent::Start => match side {
-            Side::Left => false,
-            Side::Right => true,
-        },
+        Parent::Start => side == Side::Right,
         Parent::Entry(id) => clock.covers(id),
     }
 }

@@ -8,12 +8,10 @@ use crate::clock::Pair;
 pub fn count_among(pairs: &[Pair], editor: u8) -> u16
     ensures { result ≡ count_of pairs.now editor }
 {
-    for pair in pairs {
-        if pair.editor == editor {
-            return pair.count;
-        }
-    }
-    0
+    pairs
+        .iter()
+        .find(|p| p.editor == editor)
+        .map_or(0, |p| p.count)
 }
 
 /// How many pairs come before the editor.
@@ -21,10 +19,5 @@ pub fn place_among(pairs: &[Pair], editor: u8) -> usize
     ensures value { result ≡ place_of editor pairs.now }
     ensures within { result ≤ length pairs.now }
 {
-    for (i, pair) in pairs.iter().enumerate() {
-        if pair.editor >= editor {
-            return i;
-        }
-    }
-    pairs.len()
+    pairs.iter().take_while(|p| p.editor < editor).count()
 }

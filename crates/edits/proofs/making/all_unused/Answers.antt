@@ -1,12 +1,8 @@
-use Rattle.std.proofs.Common.{rules}
-use Rattle.edits.proofs.Walking.{unused_stops, unused_more, unused_all}
+use Rattle.std.proofs.Common.{◌==◌, ◌&&◌, ◌∙◌, rules, tests}
+use Rattle.std.proofs.lemmas.Iterator.{YieldsList-from_slice}
+use Rattle.std.proofs.lemmas.Iterator.Search.{all_from_yields_List}
+use Rattle.edits.proofs.Walking.{all-unused}
 use Rattle.edits.proofs.making.all_unused.Goals as goal
 
-pub returns-then-pair-ne0 : goal.returns-then-pair-ne0
-returns-then-pair-ne0 c = unused_stops _ _ c.loop-pair.invariant c.loop-pair-test.true (search rules)
-
-pub loop-pair-preserved : goal.loop-pair-preserved
-loop-pair-preserved c = unused_more _ _ c.loop-pair.invariant c.loop-pair-test.true (search rules) (search rules)
-
 pub returns : goal.returns
-returns c = unused_all _ _ c.loop-pair.invariant c.loop-pair-test.false
+returns c = all_from_yields_List (λ p. p.editor == 0 && p.count == 0) _ _ _ c.all.ensures.ran (YieldsList-from_slice c.args.pairs.now cc) (λ x b q k. search (rules, tests)) ∙ all-unused c.args.pairs.now

@@ -1,11 +1,11 @@
-use Rattle.edits.proofs.Counting.{count_found, count_more, count_all}
+use Rattle.std.proofs.Common.{◌==◌, rules, tests, ◌∙◌, ap}
+use Rattle.std.proofs.lemmas.Iterator.{YieldsList-from_slice}
+use Rattle.std.proofs.lemmas.Iterator.Search.{find_from_yields_List}
+use Rattle.edits.proofs.Counting.{counted, counted-find, counted-read}
 use Rattle.edits.proofs.pairs.count_among.Goals as goal
 
-pub returns-then-pair-editor : goal.returns-then-pair-editor
-returns-then-pair-editor c = count_found _ _ _ c.loop-pair.invariant c.loop-pair-test.true c.if-pair-editor.true
-
-pub loop-pair-preserved : goal.loop-pair-preserved
-loop-pair-preserved c = count_more _ _ _ c.loop-pair.invariant c.loop-pair-test.true c.if-pair-editor.false
-
 pub returns : goal.returns
-returns c = count_all _ _ _ c.loop-pair.invariant c.loop-pair-test.false
+returns c =
+    let f = find_from_yields_List (λ p. p.editor == c.args.editor) _ _ c.find.result c.find.ensures.ran (YieldsList-from_slice c.args.pairs.now cc) (λ x b q k. search (rules, tests)) in
+    let m = counted-read c.find.result _ c.map_or.ensures (λ x h. search (rules, tests)) in
+    m ∙ ap counted f ∙ counted-find c.args.editor c.args.pairs.now

@@ -1,21 +1,13 @@
-use Rattle.std.proofs.Common.{◌≡◌, length, ◌∙◌, arith}
-use Rattle.edits.proofs.Walking.{place_found, place_more, place_all}
+use Rattle.std.proofs.Common.{◌≡◌, ◌∙◌, rules, tests, length, nat_lt}
+use Rattle.std.specs.List.{take_while}
+use Rattle.std.proofs.lemmas.Iterator.{YieldsList-from_slice}
+use Rattle.std.proofs.lemmas.List.Folds.{length-prefix_len}
+use Rattle.std.proofs.lemmas.Iterator.Search.{YieldsList-from_take_while}
+use Rattle.std.proofs.lemmas.Iterator.Consumers.{count_from_yields_List}
+use Rattle.edits.proofs.Counting.{prefix_len-place}
 use Rattle.edits.proofs.pairs.place_among.Goals as goal
 
-pub loop-i-init : goal.loop-i-init
-loop-i-init c = omega arith
-
-pub returns-then-pair-editor : goal.returns-then-pair-editor
-returns-then-pair-editor c =
-    record {
-      value = place_found _ _ _ c.loop-i.invariant c.loop-i-test.true c.if-pair-editor.true;
-      within = omega (arith, c.loop-i-test.true);
-    }
-
-pub loop-i-preserved : goal.loop-i-preserved
-loop-i-preserved c = place_more _ _ _ c.loop-i.invariant c.loop-i-test.true c.if-pair-editor.false
-
-pub returns : goal.returns
-returns c =
-    let end : length c.args.pairs.now ≡ c.loop-i.i = omega (arith, c.loop-i-test.false, c.loop-i.auto.i-end) in
-    record { value = end ∙ place_all _ _ _ c.loop-i.invariant end; within = omega arith }
+pub returns-clause-value : goal.returns-clause-value
+returns-clause-value c =
+    let e : c.count.result ≡ length (take_while (λ p. nat_lt p.editor c.args.editor) c.args.pairs.now) = count_from_yields_List _ _ c.count.ensures.ran (YieldsList-from_take_while _ (λ p. nat_lt p.editor c.args.editor) (YieldsList-from_slice c.args.pairs.now cc) c.take_while.ensures.closure c.take_while.ensures.done (λ x b q k. search (rules, tests))) in
+    e ∙ length-prefix_len (λ p. nat_lt p.editor c.args.editor) c.args.pairs.now ∙ prefix_len-place c.args.editor c.args.pairs.now
