@@ -2,7 +2,8 @@
 use Rattle.std.proofs.Common.{◌≡◌, ℕ, zero, suc, ◌+◌, ◌-◌, ◌<◌, ◌≤◌, Bool, true, false, cond, ◌&&◌, eqb, ltb, leb, List, [], ◌∷◌, ◌++◌, length, get_or, take, drop, set, sym, refl, ap, ◌∙◌, subst, append_assoc, add-one, arith, length-append, length-drop, length-set, length-take, ltb-false, ltb-true, lt-ltb, eq-eqb, ne_eqb, eqb-true, le-leb, leb-true}
 use borrow.Author.Tests.{eqb-false}
 use borrow.Rule.Slice.PartMut.{put_mid}
-use Rattle.std.proofs.lemmas.List.{get_or-take, take-take, take_at, drop_at, drop-drop, drop-set-lt, take_more_set, length-take-le}
+use Rattle.std.proofs.Math.Seq.{take-set-lt}
+use Rattle.std.proofs.lemmas.List.{take_min, get_or-take, take-take, take_at, drop_at, drop-drop, drop-set-lt, take_more_set, length-take-le}
 use Rattle.std.proofs.lemmas.Slice.{between_is}
 use Rattle.std.proofs.lemmas.Bool.{and_parts, and_from}
 use Rattle.edits.specs.declared.clock.Pair.{Pair}
@@ -14,18 +15,6 @@ use Rattle.edits.proofs.Counting.{no_pair}
 
 abbrev pub new : ℕ → ℕ → Pair
 new e c = record { editor = e; count = c }
-
--- the front that a list's front is long
-pub take_own : {A : Type 0} (m : ℕ) (xs : List A) → take (length (take m xs)) xs ≡ take m xs
-take_own zero xs = refl
-take_own (suc m) [] = refl
-take_own (suc m) (x ∷ xs) = ap (λ (l : List _). x ∷ l) (take_own m xs)
-
-take_front_set : {A : Type 0} (n : ℕ) (xs : List A) (k : ℕ) (v : A) → take n (set xs k v) ≡ set (take n xs) k v
-take_front_set zero xs k v = refl
-take_front_set (suc n) [] k v = refl
-take_front_set (suc n) (x ∷ xs) zero v = refl
-take_front_set (suc n) (x ∷ xs) (suc k) v = ap (λ (l : List _). x ∷ l) (take_front_set n xs k v)
 
 -- the editor is listed
 pub counting_listed : (e c : ℕ) (ps : List Pair) → place_of e ps < length ps → eqb (get_or ps (place_of e ps) no_pair).editor e ≡ true
@@ -104,7 +93,7 @@ module _ (x : Clock) (e c k : ℕ) (full : length x.pairs ≡ 16) (place : k ≡
     listed_pairs =
         let here : eqb (get_or (pairs_of x) (place_of e (pairs_of x)) no_pair).editor e ≡ true =
         ap (λ (m : ℕ). eqb (get_or (pairs_of x) m no_pair).editor e) (sym place) ∙ ap (λ (p : Pair). eqb p.editor e) (get_or-take x.len x.pairs k no_pair below) ∙ eq-eqb _ _ is in
-        take_front_set x.len x.pairs k (new e c) ∙ ap (λ (m : ℕ). set (pairs_of x) m (new e c)) place
+        take-set-lt x.len x.pairs k (new e c) below ∙ ap (λ (m : ℕ). set (pairs_of x) m (new e c)) place
         ∙ sym (counting_listed e c (pairs_of x) (subst (λ (m : ℕ). m < length (pairs_of x)) place lt) here)
 
     pub listed_kept : 0 < e → 0 < c → clock_kept x ≡ true → clock_kept (record { len = x.len; pairs = set x.pairs k (new e c) }) ≡ true
@@ -118,7 +107,7 @@ module _ (x : Clock) (e c k : ℕ) (full : length x.pairs ≡ 16) (place : k ≡
   -- the editor is new: those behind it move up
   module _ (n : ℕ) (n-is : n ≡ length (pairs_of x)) (le : k ≤ n) (other : k < n → (get_or x.pairs k no_pair).editor ≡ e → ⊥) where
     own : take n x.pairs ≡ pairs_of x
-    own = ap (λ (m : ℕ). take m x.pairs) n-is ∙ take_own x.len x.pairs
+    own = ap (λ (m : ℕ). take m x.pairs) n-is ∙ ap (λ (m : ℕ). take m x.pairs) (length-take x.len x.pairs) ∙ take_min x.len x.pairs
 
     at_most : (n ≤ x.len) × (n ≤ 16)
     at_most = (omega (arith, length-take x.len x.pairs), omega (arith, length-take x.len x.pairs))

@@ -4,6 +4,8 @@ ghost use Rattle.edits.specs.Pairs.{count_of, place_of};
 
 use crate::clock::Pair;
 
+// No binary search: there are 16 pairs at most, and the answer is exact for pairs in any order.
+
 /// The count of the editor, 0 where it is not listed.
 pub fn count_among(pairs: &[Pair], editor: u8) -> u16
     ensures { result ≡ count_of pairs.now editor }
