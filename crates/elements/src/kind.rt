@@ -26,6 +26,9 @@ pub trait Kind: Copy {
     /// What holds of every element in memory.
     ghost proper: { Self → Bool };
 
+    // Two functions beside two constants: no clause can cite a trait's own constant (refused), and of a type
+    // parameter's constant nothing is known.
+
     /// `WIDTH`, for generic code.
     fn bytes() -> usize
         ensures { result ≡ width };
