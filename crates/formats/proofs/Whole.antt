@@ -11,18 +11,8 @@ use Rattle.formats.specs.declared.format.Format.{Format}
 use Rattle.formats.specs.Marks.{has_runs, insertion_mark, deletion_mark, run_mark}
 use Rattle.formats.specs.Fields.{◌then◌, byte_at, placement_at, removal_at}
 use Rattle.formats.specs.Records.{Raw, insertion, deletion, run, element_at, all_at, length_at, insertion_at, deletion_at, run_at, record_at}
+use Rattle.formats.proofs.Steps.{ok_same, err_ok, went_on}
 use Rattle.formats.specs.Expanded.{length_of, place_in, inserted, edit_within, edit_at, Whole}
-
-ok_same : {A : Type 0} {x y : A} → ◌≡◌ {A = Result A Fault} (Ok x) (Ok y) → x ≡ y
-ok_same e = cc
-
-err_ok : {A : Type 0} {f : Fault} {y : A} → ◌≡◌ {A = Result A Fault} (Err f) (Ok y) → ⊥
-err_ok e = let z : ◌≡◌ {A = ℕ} 0 1 = cc in omega arith
-
--- what went on had a value to go on with
-went_on : {A B : Type 0} (r : Result A Fault) (f : A → Result B Fault) (y : B) → (r then f) ≡ Ok y → (x : A) × (r ≡ Ok x) × (f x ≡ Ok y)
-went_on (Ok x) f y e = (x, refl, e)
-went_on (Err g) f y e = absurd (err_ok e)
 
 module _ {K : Type 0} (w : ℕ) (u : List ℕ → Option K) where
   element_some : (s : List ℕ) (at : ℕ) (b : List ℕ) → element_at w u s at ≡ Ok b → (b ≡ take w (drop at s)) × (is_some (u b) ≡ true)

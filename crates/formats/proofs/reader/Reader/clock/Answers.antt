@@ -1,0 +1,23 @@
+use Rattle.std.proofs.Common.{◌≡◌, ◌+◌, ◌<◌, ◌≤◌, List, length, sym, subst, ap, ◌∙◌, arith, rules, Bor, ℕ, Ok, Err}
+use Rattle.std.proofs.lemmas.Result.{err_from_is_err_and}
+use Rattle.formats.specs.Fields.{pair_at}
+use Rattle.formats.proofs.Filling.{Filled, pair_fails, filled_more, clock_by, all_filled}
+use Rattle.formats.proofs.reader.Reader.clock.Goals as goal
+
+pub returns-in_err-pair-clause-value : goal.returns-in_err-pair-clause-value
+returns-in_err-pair-clause-value c =
+    let p = err_from_is_err_and c.from_residual-in_err-pair.result c.from_residual-in_err-pair.ensures.1 in
+    let f = c.in_err-pair.field-0.0 in
+    let failed : pair_at c.loop-pair.last c.args.self.now.input.now c.loop-pair.self.at ≡ Err f = search rules in
+    rw (p.1, p.2) (clock_by _ _ _ (Err f) (sym c.in_ok-len.ensures.value) c.if-len-gt16.false (pair_fails _ _ _ _ _ _ _ c.loop-pair.invariant.filled (search rules) f failed))
+
+pub loop-pair-preserved : goal.loop-pair-preserved
+loop-pair-preserved c =
+    let read : pair_at c.loop-pair.last c.args.self.now.input.now c.loop-pair.self.at ≡ Ok c.in_ok-pair.field-0 = search rules in
+    record {
+      filled = filled_more _ _ _ _ _ _ _ c.loop-pair.invariant.filled (search rules) c.in_ok-pair.field-0 _ read (search rules) (search rules);
+      same = search rules;
+    }
+
+pub returns-clause-value : goal.returns-clause-value
+returns-clause-value c = all_filled _ _ _ _ _ _ _ (sym c.in_ok-len.ensures.value) c.if-len-gt16.false c.loop-pair.invariant.filled (search rules) (search rules)
