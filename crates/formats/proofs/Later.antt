@@ -90,20 +90,20 @@ module _ (id : Id) (x : Clock) (kept : stamp_kept id x ≡ true) where
       (λ h. let few : length (pairs_of x) < 16 = ltb-true (length (pairs_of x)) 16 h in omega (arith, length_most id.editor c (pairs_of x)))
       (or_cases (ltb 1 id.number) (ltb (length (pairs_of x)) 16) own.1)
 
-  -- the insertion at the place i, with a clock y that counts the one before it besides
-  module _ (i : ℕ) (some : 0 < i) (y : Clock) (counts : pairs_of y ≡ counting id.editor (id.number + (i - 1)) (pairs_of x)) where
-    own_count : count_of (pairs_of y) id.editor ≡ id.number + (i - 1)
-    own_count = ap (λ (ps : List Pair). count_of ps id.editor) counts ∙ count_counting id.editor (id.number + (i - 1)) (pairs_of x)
+  -- the insertion behind the place i, with a clock y that counts the one there besides
+  module _ (i : ℕ) (y : Clock) (counts : pairs_of y ≡ counting id.editor (id.number + i) (pairs_of x)) where
+    own_count : count_of (pairs_of y) id.editor ≡ id.number + i
+    own_count = ap (λ (ps : List Pair). count_of ps id.editor) counts ∙ count_counting id.editor (id.number + i) (pairs_of x)
 
-    pub later_stamp : clock_kept y ≡ true → stamp_kept (further id i) y ≡ true
+    pub later_stamp : clock_kept y ≡ true → stamp_kept (further id (i + 1)) y ≡ true
     later_stamp y_kept =
-        let own : eqb (count_of (pairs_of y) id.editor) (id.number + i - 1) ≡ true = eq-eqb _ _ (own_count ∙ omega arith) in
-        let late : 1 < id.number + i = omega (arith, parts.1) in
-        all_three (ltb 0 id.editor) (ltb 0 (id.number + i)) (clock_kept y && own_kept (further id i) (pairs_of y)) (lt-ltb _ _ parts.0) (lt-ltb _ _ (omega (arith, parts.1)))
-        (and_from (clock_kept y) (own_kept (further id i) (pairs_of y)) y_kept
-        (and_from (eqb (count_of (pairs_of y) id.editor) (id.number + i - 1)) (ltb 1 (id.number + i) || ltb (length (pairs_of y)) 16) own (or_left _ _ (lt-ltb _ _ late))))
+        let own : eqb (count_of (pairs_of y) id.editor) (id.number + (i + 1) - 1) ≡ true = eq-eqb _ _ (own_count ∙ omega arith) in
+        let late : 1 < id.number + (i + 1) = omega (arith, parts.1) in
+        all_three (ltb 0 id.editor) (ltb 0 (id.number + (i + 1))) (clock_kept y && own_kept (further id (i + 1)) (pairs_of y)) (lt-ltb _ _ parts.0) (lt-ltb _ _ (omega (arith, parts.1)))
+        (and_from (clock_kept y) (own_kept (further id (i + 1)) (pairs_of y)) y_kept
+        (and_from (eqb (count_of (pairs_of y) id.editor) (id.number + (i + 1) - 1)) (ltb 1 (id.number + (i + 1)) || ltb (length (pairs_of y)) 16) own (or_left _ _ (lt-ltb _ _ late))))
 
-    pub later_parent : parent_kept (pairs_of y) (Entry (further id (i - 1))) Right ≡ true
+    pub later_parent : parent_kept (pairs_of y) (Entry (further id i)) Right ≡ true
     later_parent =
-        all_three (ltb 0 id.editor) (ltb 0 (id.number + (i - 1))) (leb (id.number + (i - 1)) (count_of (pairs_of y) id.editor)) (lt-ltb _ _ parts.0) (lt-ltb _ _ (omega (arith, parts.1)))
+        all_three (ltb 0 id.editor) (ltb 0 (id.number + i)) (leb (id.number + i) (count_of (pairs_of y) id.editor)) (lt-ltb _ _ parts.0) (lt-ltb _ _ (omega (arith, parts.1)))
         (le-leb _ _ (omega (arith, own_count)))
