@@ -108,17 +108,17 @@ unused_drop (suc i) (p ∷ ps) e = unused_drop i ps (three (eqb p.editor 0) (eqb
 abbrev blank : List Pair
 blank = replicate 16 (record { editor = 0; count = 0 })
 
--- all n pairs are read
-pub all_filled : (s : List ℕ) (at n i last end : ℕ) (ps : List Pair) → byte_at s at ≡ Ok n → n ≤ 16 → Filled s (at + 1) n i last end ps → i ≡ n → length ps ≡ n
-    → let x : Clock = record { len = n; pairs = ps ++ drop n blank } in (clock_at s at ≡ Ok (pairs_of x)) × (clock_kept x ≡ true) × (end ≡ at + 1 + 3 * length (pairs_of x))
-all_filled s at n i last end ps b small h all long =
-    let x : Clock = record { len = n; pairs = ps ++ drop n blank } in
+-- all n pairs are read, into the first m places of the array
+pub all_filled : (s : List ℕ) (at n m i last end : ℕ) (ps : List Pair) → byte_at s at ≡ Ok n → n ≤ 16 → Filled s (at + 1) n i last end ps → i ≡ n → m ≡ n → length ps ≡ m
+    → let x : Clock = record { len = n; pairs = ps ++ drop m blank } in (clock_at s at ≡ Ok (pairs_of x)) × (clock_kept x ≡ true) × (end ≡ at + 1 + 3 * length (pairs_of x))
+all_filled s at n m i last end ps b small h all same long =
+    let x : Clock = record { len = n; pairs = ps ++ drop m blank } in
     let none : n - i ≡ 0 = omega arith in
-    let front : pairs_of x ≡ ps = take_at ps (drop n blank) n long in
+    let front : pairs_of x ≡ ps = take_at ps (drop m blank) n (long ∙ same) in
     let reads : pairs_at n 0 s (at + 1) ≡ Ok ps =
     h.reads ∙ ap (λ (m : ℕ). pairs_at m last s end then (λ qs. Ok (take i ps ++ qs))) none ∙ ap Ok (append-nil (take i ps) ∙ take_all i ps (omega arith)) in (
       clock_by s at n (Ok (pairs_of x)) b small (reads ∙ ap Ok (sym front)),
-      kept_by x (length-append ps (drop n blank) ∙ omega (arith, length-drop n blank)) small (ap (ascending 0) front ∙ pairs_rise n 0 s (at + 1) ps reads)
-          (ap unused (drop_at ps (drop n blank) n long) ∙ unused_drop n blank refl),
+      kept_by x (length-append ps (drop m blank) ∙ omega (arith, length-drop m blank)) small (ap (ascending 0) front ∙ pairs_rise n 0 s (at + 1) ps reads)
+          (ap unused (drop_at ps (drop m blank) n (long ∙ same)) ∙ unused_drop m blank refl),
       omega (arith, h.place, ap length front),
     )

@@ -2,6 +2,7 @@
 ghost use Rattle.std.specs.Prelude.{◌≡◌, ◌+◌, ◌*◌, true, length, OnOk, Ok, Err, MatchResult};
 ghost use Rattle.edits.specs.Clocks.{pairs_of, clock_kept};
 ghost use Rattle.formats.specs.Fields.{pair_at, clock_at};
+ghost use Rattle.formats.specs.Readers.{MovesTo};
 
 use crate::reader::Reader;
 use edits::{Clock, Fault, Pair};
@@ -10,8 +11,7 @@ impl Reader<'_> {
     /// A pair, whose editor comes behind `last`.
     fn pair(&mut self, last: u8) -> Result<Pair, Fault>
         ensures value { result ≡ pair_at last self.old.input.now self.old.at }
-        ensures moved { OnOk result (self.new.at ≡ self.old.at + 3) }
-        ensures same { self.new.input ≡ self.old.input }
+        ensures moved { OnOk result (MovesTo self.old self.new (self.old.at + 3)) }
     {
         let place = self.at;
         let editor = self.byte()?;
@@ -24,8 +24,7 @@ impl Reader<'_> {
 
     /// The count of pairs, and the pairs.
     pub(crate) fn clock(&mut self) -> Result<Clock, Fault>
-        ensures value { MatchResult result (λ x. (clock_at self.old.input.now self.old.at ≡ Ok (pairs_of x)) × (clock_kept x ≡ true) × (self.new.at ≡ self.old.at + 1 + 3 * length (pairs_of x))) (λ e. clock_at self.old.input.now self.old.at ≡ Err e) }
-        ensures same { self.new.input ≡ self.old.input }
+        ensures { MatchResult result (λ x. (clock_at self.old.input.now self.old.at ≡ Ok (pairs_of x)) × (clock_kept x ≡ true) × MovesTo self.old self.new (self.old.at + 1 + 3 * length (pairs_of x))) (λ e. clock_at self.old.input.now self.old.at ≡ Err e) }
     {
         let place = self.at;
         let len = self.byte()?;
@@ -37,7 +36,7 @@ impl Reader<'_> {
             count: 0,
         }; 16];
         let mut last = 0;
-        for pair in &mut pairs[..len as usize] {
+        for pair in &mut pairs[..usize::from(len)] {
             *pair = self.pair(last)?;
             last = pair.editor;
         }

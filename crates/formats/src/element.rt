@@ -1,6 +1,7 @@
 //! Elements, tested one after the other; what is kept of them is their bytes.
 ghost use Rattle.std.specs.Prelude.{◌≡◌, ◌+◌, ◌*◌, length, take, drop, Ok, Err, MatchResult};
 ghost use Rattle.formats.specs.Records.{element_at, all_at};
+ghost use Rattle.formats.specs.Readers.{MovesTo};
 
 use crate::reader::Reader;
 use edits::Fault;
@@ -9,8 +10,7 @@ use elements::Kind;
 impl<'a> Reader<'a> {
     /// The bytes of an element, themselves.
     pub(crate) fn element<K: Kind>(&mut self) -> Result<&'a [u8], Fault>
-        ensures value { MatchResult result (λ b. (element_at K.Kind.width K.Kind.unpacked self.old.input.now self.old.at ≡ Ok b.now) × (length b.now ≡ K.Kind.width) × (self.new.at ≡ self.old.at + K.Kind.width)) (λ e. element_at K.Kind.width K.Kind.unpacked self.old.input.now self.old.at ≡ Err e) }
-        ensures same { self.new.input ≡ self.old.input }
+        ensures { MatchResult result (λ b. (element_at K.Kind.width K.Kind.unpacked self.old.input.now self.old.at ≡ Ok b.now) × (length b.now ≡ K.Kind.width) × MovesTo self.old self.new (self.old.at + K.Kind.width)) (λ e. element_at K.Kind.width K.Kind.unpacked self.old.input.now self.old.at ≡ Err e) }
     {
         let place = self.at;
         let bytes = self.bytes(K::bytes())?;
@@ -23,8 +23,7 @@ impl<'a> Reader<'a> {
     /// The bytes of `len` elements, each tested before the next is read.
     #[tactic(auto, using(crate::proofs::Parts::all_step))]
     pub(crate) fn elements<K: Kind>(&mut self, len: u8) -> Result<&'a [u8], Fault>
-        ensures value { MatchResult result (λ b. (all_at K.Kind.width K.Kind.unpacked len self.old.input.now self.old.at ≡ Ok tt) × (b.now ≡ take (len * K.Kind.width) (drop self.old.at self.old.input.now)) × (length b.now ≡ len * K.Kind.width) × (self.new.at ≡ self.old.at + len * K.Kind.width)) (λ e. all_at K.Kind.width K.Kind.unpacked len self.old.input.now self.old.at ≡ Err e) }
-        ensures same { self.new.input ≡ self.old.input }
+        ensures { MatchResult result (λ b. (all_at K.Kind.width K.Kind.unpacked len self.old.input.now self.old.at ≡ Ok tt) × (b.now ≡ take (len * K.Kind.width) (drop self.old.at self.old.input.now)) × (length b.now ≡ len * K.Kind.width) × MovesTo self.old self.new (self.old.at + len * K.Kind.width)) (λ e. all_at K.Kind.width K.Kind.unpacked len self.old.input.now self.old.at ≡ Err e) }
     {
         let start = self.at;
         for _ in 0..len {

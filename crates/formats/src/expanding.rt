@@ -21,7 +21,7 @@ impl Record<'_> {
         match self {
             Record::Insertion { .. } => 1,
             Record::Deletion { .. } => 1,
-            Record::Run { len, .. } => *len as usize,
+            Record::Run { len, .. } => usize::from(*len),
         }
     }
 

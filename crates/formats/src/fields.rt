@@ -3,6 +3,7 @@ ghost use Rattle.std.specs.Prelude.{◌≡◌, ◌+◌, ◌*◌, ◌<◌, ◌≤
 ghost use Rattle.edits.specs.Clocks.{pairs_of};
 ghost use Rattle.edits.specs.Rules.{parent_kept};
 ghost use Rattle.formats.specs.Fields.{id_at, name_at, stamp_at, side_at, parent_of, place_at, placement_at, placement_parts, removal_at, removal_parts};
+ghost use Rattle.formats.specs.Readers.{MovesTo};
 
 use crate::reader::Reader;
 use edits::{Clock, Fault, Id, Parent, Placement, Removal, Side, Stamp, own_kept, parent_kept};
@@ -11,8 +12,7 @@ impl Reader<'_> {
     /// An editor and a number, whatever they are.
     fn id(&mut self) -> Result<Id, Fault>
         ensures value { result ≡ id_at self.old.input.now self.old.at }
-        ensures moved { OnOk result (self.new.at ≡ self.old.at + 3) }
-        ensures same { self.new.input ≡ self.old.input }
+        ensures moved { OnOk result (MovesTo self.old self.new (self.old.at + 3)) }
     {
         let editor = self.byte()?;
         let number = self.two()?;
@@ -22,8 +22,7 @@ impl Reader<'_> {
     /// The identifier of a head, which has no 0.
     fn name(&mut self) -> Result<Id, Fault>
         ensures value { result ≡ name_at self.old.input.now self.old.at }
-        ensures named { IfOk result (λ i. (0 < i.editor) × (0 < i.number) × (self.new.at ≡ self.old.at + 3)) }
-        ensures same { self.new.input ≡ self.old.input }
+        ensures named { IfOk result (λ i. (0 < i.editor) × (0 < i.number) × MovesTo self.old self.new (self.old.at + 3)) }
     {
         let editor_place = self.at;
         let editor = self.byte()?;
@@ -40,8 +39,7 @@ impl Reader<'_> {
 
     /// The head of a record: which edit it is, and its clock.
     fn stamp(&mut self) -> Result<Stamp, Fault>
-        ensures value { MatchResult result (λ x. (stamp_at self.old.input.now self.old.at ≡ Ok (x.id, pairs_of x.clock)) × (self.new.at ≡ self.old.at + 4 + 3 * length (pairs_of x.clock))) (λ e. stamp_at self.old.input.now self.old.at ≡ Err e) }
-        ensures same { self.new.input ≡ self.old.input }
+        ensures { MatchResult result (λ x. (stamp_at self.old.input.now self.old.at ≡ Ok (x.id, pairs_of x.clock)) × MovesTo self.old self.new (self.old.at + 4 + 3 * length (pairs_of x.clock))) (λ e. stamp_at self.old.input.now self.old.at ≡ Err e) }
     {
         let id = self.name()?;
         let clock_place = self.at;
@@ -57,8 +55,7 @@ impl Reader<'_> {
     /// A side: 0 is left, 1 is right.
     fn side(&mut self) -> Result<Side, Fault>
         ensures value { result ≡ side_at self.old.input.now self.old.at }
-        ensures moved { OnOk result (self.new.at ≡ self.old.at + 1) }
-        ensures same { self.new.input ≡ self.old.input }
+        ensures moved { OnOk result (MovesTo self.old self.new (self.old.at + 1)) }
     {
         let place = self.at;
         match self.byte()? {
@@ -71,8 +68,7 @@ impl Reader<'_> {
     /// Parent and side behind a head with the clock.
     fn place(&mut self, clock: &Clock) -> Result<(Parent, Side), Fault>
         ensures value { result ≡ place_at (pairs_of clock.now) self.old.input.now self.old.at }
-        ensures hung { IfOk result (λ x. (parent_kept (pairs_of clock.now) x.0 x.1 ≡ true) × (self.new.at ≡ self.old.at + 4)) }
-        ensures same { self.new.input ≡ self.old.input }
+        ensures hung { IfOk result (λ x. (parent_kept (pairs_of clock.now) x.0 x.1 ≡ true) × MovesTo self.old self.new (self.old.at + 4)) }
     {
         let parent_place = self.at;
         let parent = parent_of(self.id()?);
@@ -86,8 +82,7 @@ impl Reader<'_> {
 
     /// Head, parent and side of an insertion or of a run's first.
     pub(crate) fn placement(&mut self) -> Result<Placement, Fault>
-        ensures value { MatchResult result (λ x. (placement_at self.old.input.now self.old.at ≡ Ok (placement_parts x)) × (self.new.at ≡ self.old.at + 8 + 3 * length (pairs_of x.stamp.clock))) (λ e. placement_at self.old.input.now self.old.at ≡ Err e) }
-        ensures same { self.new.input ≡ self.old.input }
+        ensures { MatchResult result (λ x. (placement_at self.old.input.now self.old.at ≡ Ok (placement_parts x)) × MovesTo self.old self.new (self.old.at + 8 + 3 * length (pairs_of x.stamp.clock))) (λ e. placement_at self.old.input.now self.old.at ≡ Err e) }
     {
         let stamp = self.stamp()?;
         let (parent, side) = self.place(&stamp.clock)?;
@@ -100,8 +95,7 @@ impl Reader<'_> {
 
     /// Head and target of a deletion.
     pub(crate) fn removal(&mut self) -> Result<Removal, Fault>
-        ensures value { MatchResult result (λ x. (removal_at self.old.input.now self.old.at ≡ Ok (removal_parts x)) × (self.new.at ≡ self.old.at + 7 + 3 * length (pairs_of x.stamp.clock))) (λ e. removal_at self.old.input.now self.old.at ≡ Err e) }
-        ensures same { self.new.input ≡ self.old.input }
+        ensures { MatchResult result (λ x. (removal_at self.old.input.now self.old.at ≡ Ok (removal_parts x)) × MovesTo self.old self.new (self.old.at + 7 + 3 * length (pairs_of x.stamp.clock))) (λ e. removal_at self.old.input.now self.old.at ≡ Err e) }
     {
         let stamp = self.stamp()?;
         let target_place = self.at;

@@ -12,9 +12,9 @@ impl Drop for Guard<'_> {
     fn drop(self)
         ensures { self.exit.0.now ≡ unwrap_or self.entry.back_to self.entry.at.now }
     {
-        if let Some(mark) = self.back_to {
-            *self.at = mark;
+        let Guard { at, back_to } = self;
+        if let Some(mark) = back_to {
+            *at = mark;
         }
-        let Guard { at: _, back_to: _ } = self;
     }
 }

@@ -15,6 +15,8 @@ pub(crate) struct Reader<'a> {
 }
 
 impl<'a> Reader<'a> {
+    ghost use Rattle.formats.specs.Readers.{MovesTo};
+
     /// Begins at the offset, which may lie anywhere.
     pub(crate) fn new(input: &'a [u8], at: usize) -> Result<Reader<'a>, Fault>
         ensures { MatchResult result (λ x. (x.input ≡ input.entry) × (x.at ≡ at)) (λ e. (e ≡ Extent (length input.now)) × (length input.now < at)) }
@@ -27,8 +29,7 @@ impl<'a> Reader<'a> {
 
     /// The next `n` bytes.
     pub(crate) fn bytes(&mut self, n: usize) -> Result<&'a [u8], Fault>
-        ensures value { MatchResult result (λ b. (b.now ≡ take n (drop self.old.at self.old.input.now)) × (length b.now ≡ n) × (self.new.at ≡ self.old.at + n)) (λ e. (e ≡ Extent (length self.old.input.now)) × (length self.old.input.now < self.old.at + n)) }
-        ensures same { self.new.input ≡ self.old.input }
+        ensures { MatchResult result (λ b. (b.now ≡ take n (drop self.old.at self.old.input.now)) × (length b.now ≡ n) × MovesTo self.old self.new (self.old.at + n)) (λ e. (e ≡ Extent (length self.old.input.now)) × (length self.old.input.now < self.old.at + n)) }
     {
         let rest = &self.input[self.at..];
         let bytes = rest.get(..n).ok_or(Fault::Extent(self.input.len()))?;
@@ -38,8 +39,7 @@ impl<'a> Reader<'a> {
 
     pub(crate) fn byte(&mut self) -> Result<u8, Fault>
         ensures value { result ≡ byte_at self.old.input.now self.old.at }
-        ensures moved { OnOk result (self.new.at ≡ self.old.at + 1) }
-        ensures same { self.new.input ≡ self.old.input }
+        ensures moved { OnOk result (MovesTo self.old self.new (self.old.at + 1)) }
     {
         let byte = self
             .input
@@ -53,8 +53,7 @@ impl<'a> Reader<'a> {
     /// A number of two bytes, the higher first.
     pub(crate) fn two(&mut self) -> Result<u16, Fault>
         ensures value { result ≡ two_at self.old.input.now self.old.at }
-        ensures moved { OnOk result (self.new.at ≡ self.old.at + 2) }
-        ensures same { self.new.input ≡ self.old.input }
+        ensures moved { OnOk result (MovesTo self.old self.new (self.old.at + 2)) }
     {
         let high = self.byte()?;
         let low = self.byte()?;

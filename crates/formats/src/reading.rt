@@ -3,6 +3,7 @@ ghost use Rattle.std.specs.Prelude.{◌≡◌, ◌+◌, ◌<◌, ◌≤◌, leng
 ghost use Rattle.formats.specs.Records.{length_at, insertion_at, deletion_at, run_at, fields_at, record_at};
 ghost use Rattle.formats.specs.Expanded.{Whole};
 ghost use Rattle.formats.specs.Kept.{raw, Kept};
+ghost use Rattle.formats.specs.Readers.{MovesTo};
 
 use crate::format::Format;
 use crate::guard::Guard;
@@ -15,8 +16,7 @@ use elements::Kind;
 impl<'a> Reader<'a> {
     /// An insertion, from behind its mark.
     fn insertion<K: Kind>(&mut self) -> Result<Record<'a>, Fault>
-        ensures value { MatchResult result (λ x. (insertion_at K.Kind.width K.Kind.unpacked self.old.input.now self.old.at ≡ Ok (raw x, self.new.at)) × Kept K.Kind.width x × (self.old.at < self.new.at)) (λ e. insertion_at K.Kind.width K.Kind.unpacked self.old.input.now self.old.at ≡ Err e) }
-        ensures same { self.new.input ≡ self.old.input }
+        ensures { MatchResult result (λ x. (insertion_at K.Kind.width K.Kind.unpacked self.old.input.now self.old.at ≡ Ok (raw x, self.new.at)) × Kept K.Kind.width x × (self.old.at < self.new.at) × (self.new.at ≤ length self.old.input.now)) (λ e. insertion_at K.Kind.width K.Kind.unpacked self.old.input.now self.old.at ≡ Err e) }
     {
         let placement = self.placement()?;
         let offset = self.at;
@@ -33,8 +33,7 @@ impl<'a> Reader<'a> {
 
     /// A deletion, likewise.
     fn deletion<K: Kind>(&mut self) -> Result<Record<'a>, Fault>
-        ensures value { MatchResult result (λ x. (deletion_at self.old.input.now self.old.at ≡ Ok (raw x, self.new.at)) × Kept K.Kind.width x × (self.old.at < self.new.at)) (λ e. deletion_at self.old.input.now self.old.at ≡ Err e) }
-        ensures same { self.new.input ≡ self.old.input }
+        ensures { MatchResult result (λ x. (deletion_at self.old.input.now self.old.at ≡ Ok (raw x, self.new.at)) × Kept K.Kind.width x × (self.old.at < self.new.at) × (self.new.at ≤ length self.old.input.now)) (λ e. deletion_at self.old.input.now self.old.at ≡ Err e) }
     {
         let removal = self.removal()?;
         Ok(Record::Deletion {
@@ -47,15 +46,14 @@ impl<'a> Reader<'a> {
     /// How many elements the run that begins with the edit has.
     fn run_length(&mut self, id: Id) -> Result<u8, Fault>
         ensures value { result ≡ length_at id self.old.input.now self.old.at }
-        ensures bounds { IfOk result (λ m. (2 ≤ m) × (m ≤ 64) × (id.number + m ≤ 65536) × (self.new.at ≡ self.old.at + 1)) }
-        ensures same { self.new.input ≡ self.old.input }
+        ensures bounds { IfOk result (λ m. (2 ≤ m) × (m ≤ 64) × (id.number + m ≤ 65536) × MovesTo self.old self.new (self.old.at + 1)) }
     {
         let place = self.at;
         let len = self.byte()?;
-        if len < 2 || len > 64 {
+        if !(2..=64).contains(&len) {
             return Err(Fault::RunLength(place));
         }
-        if id.number as usize + len as usize > 65536 {
+        if u32::from(id.number) + u32::from(len) > 65536 {
             return Err(Fault::Numbering(place));
         }
         Ok(len)
@@ -63,8 +61,7 @@ impl<'a> Reader<'a> {
 
     /// A run, likewise.
     fn run<K: Kind>(&mut self) -> Result<Record<'a>, Fault>
-        ensures value { MatchResult result (λ x. (run_at K.Kind.width K.Kind.unpacked self.old.input.now self.old.at ≡ Ok (raw x, self.new.at)) × Kept K.Kind.width x × (self.old.at < self.new.at)) (λ e. run_at K.Kind.width K.Kind.unpacked self.old.input.now self.old.at ≡ Err e) }
-        ensures same { self.new.input ≡ self.old.input }
+        ensures { MatchResult result (λ x. (run_at K.Kind.width K.Kind.unpacked self.old.input.now self.old.at ≡ Ok (raw x, self.new.at)) × Kept K.Kind.width x × (self.old.at < self.new.at) × (self.new.at ≤ length self.old.input.now)) (λ e. run_at K.Kind.width K.Kind.unpacked self.old.input.now self.old.at ≡ Err e) }
     {
         let placement = self.placement()?;
         let len = self.run_length(placement.stamp.id)?;
@@ -88,8 +85,7 @@ impl<'a> Reader<'a> {
         bytes: [u8; 2],
         mark: usize,
     ) -> Result<Record<'a>, Fault>
-        ensures value { MatchResult result (λ x. (fields_at K.Kind.width K.Kind.unpacked format (slice_index bytes 0) (slice_index bytes 1) mark self.old.input.now self.old.at ≡ Ok (raw x, self.new.at)) × Kept K.Kind.width x × (self.old.at < self.new.at)) (λ e. fields_at K.Kind.width K.Kind.unpacked format (slice_index bytes 0) (slice_index bytes 1) mark self.old.input.now self.old.at ≡ Err e) }
-        ensures same { self.new.input ≡ self.old.input }
+        ensures { MatchResult result (λ x. (fields_at K.Kind.width K.Kind.unpacked format (slice_index bytes 0) (slice_index bytes 1) mark self.old.input.now self.old.at ≡ Ok (raw x, self.new.at)) × Kept K.Kind.width x × (self.old.at < self.new.at) × (self.new.at ≤ length self.old.input.now)) (λ e. fields_at K.Kind.width K.Kind.unpacked format (slice_index bytes 0) (slice_index bytes 1) mark self.old.input.now self.old.at ≡ Err e) }
     {
         match &bytes {
             INSERTION => self.insertion::<K>(),

@@ -4,8 +4,8 @@ use Rattle.formats.specs.Fields.{pair_at}
 use Rattle.formats.proofs.Filling.{Filled, pair_fails, filled_more, clock_by, all_filled}
 use Rattle.formats.proofs.reader.Reader.clock.Goals as goal
 
-pub returns-in_err-pair-clause-value : goal.returns-in_err-pair-clause-value
-returns-in_err-pair-clause-value c =
+pub returns-in_err-pair : goal.returns-in_err-pair
+returns-in_err-pair c =
     let p = err_from_is_err_and c.from_residual-in_err-pair.result c.from_residual-in_err-pair.ensures.1 in
     let f = c.in_err-pair.field-0.0 in
     let failed : pair_at c.loop-pair.last c.args.self.now.input.now c.loop-pair.self.at ≡ Err f = search rules in
@@ -19,5 +19,7 @@ loop-pair-preserved c =
       same = search rules;
     }
 
-pub returns-clause-value : goal.returns-clause-value
-returns-clause-value c = all_filled _ _ _ _ _ _ _ (sym c.in_ok-len.ensures.value) c.if-len-gt16.false c.loop-pair.invariant.filled (search rules) (search rules)
+pub returns : goal.returns
+returns c =
+    let h = all_filled _ _ _ c.from.result _ _ _ _ (sym c.in_ok-len.ensures.value) c.if-len-gt16.false c.loop-pair.invariant.filled (search rules) (search rules) (search rules) in
+    (h.0, h.1, (c.loop-pair.invariant.same, h.2))
