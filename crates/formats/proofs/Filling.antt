@@ -11,26 +11,24 @@ use Rattle.edits.specs.Pairs.{ascending, unused}
 use Rattle.edits.proofs.Conjunctions.{three, all_three}
 use Rattle.edits.proofs.Placed.{kept_by}
 use Rattle.formats.specs.Fields.{◌then◌, byte_at, two_at, pair_at, pairs_at, clock_at}
-use Rattle.formats.proofs.Steps.{then_ok, then_then, ok_same, err_ok, went_on}
+use Rattle.formats.proofs.Steps.{then_ok, then_then, then_same, ok_same, err_ok, went_on}
 
 -- n + 1 pairs are a pair and n more
-pair_step : (n low : ℕ) (s : List ℕ) (at : ℕ) → pairs_at (suc n) low s at ≡ (pair_at low s at then (λ p. pairs_at n p.editor s (at + 3) then (λ ps. Ok (p ∷ ps))))
-pair_step n low s at = by_editor (byte_at s at)
-  where
-    by_test : (e c : ℕ) (v : Bool) → cond v (pairs_at n e s (at + 3) then (λ ps. Ok (record { editor = e; count = c } ∷ ps))) (Err (Pairs at))
-        ≡ ((cond v (Ok (record { editor = e; count = c })) (Err (Pairs at))) then (λ p. pairs_at n p.editor s (at + 3) then (λ ps. Ok (p ∷ ps))))
-    by_test e c true = refl
-    by_test e c false = refl
+module _ (n low : ℕ) (s : List ℕ) (at : ℕ) where
+  abbrev one : ℕ → ℕ → Result Pair Fault
+  one e c = cond (ltb low e && ltb 0 c) (Ok (record { editor = e; count = c })) (Err (Pairs at))
 
-    by_count : (e : ℕ) (r : Result ℕ Fault) → (r then (λ c. cond (ltb low e && ltb 0 c) (pairs_at n e s (at + 3) then (λ ps. Ok (record { editor = e; count = c } ∷ ps))) (Err (Pairs at))))
-        ≡ ((r then (λ c. cond (ltb low e && ltb 0 c) (Ok (record { editor = e; count = c })) (Err (Pairs at)))) then (λ p. pairs_at n p.editor s (at + 3) then (λ ps. Ok (p ∷ ps))))
-    by_count e (Ok c) = by_test e c (ltb low e && ltb 0 c)
-    by_count e (Err f) = refl
+  abbrev more : Pair → Result (List Pair) Fault
+  more p = pairs_at n p.editor s (at + 3) then (λ ps. Ok (p ∷ ps))
 
-    by_editor : (r : Result ℕ Fault) → (r then (λ e. two_at s (at + 1) then (λ c. cond (ltb low e && ltb 0 c) (pairs_at n e s (at + 3) then (λ ps. Ok (record { editor = e; count = c } ∷ ps))) (Err (Pairs at)))))
-        ≡ ((r then (λ e. two_at s (at + 1) then (λ c. cond (ltb low e && ltb 0 c) (Ok (record { editor = e; count = c })) (Err (Pairs at))))) then (λ p. pairs_at n p.editor s (at + 3) then (λ ps. Ok (p ∷ ps))))
-    by_editor (Ok e) = by_count e (two_at s (at + 1))
-    by_editor (Err f) = refl
+  one_more : (e c : ℕ) (v : Bool) → cond v (more (record { editor = e; count = c })) (Err (Pairs at)) ≡ ((cond v (Ok (record { editor = e; count = c })) (Err (Pairs at))) then more)
+  one_more e c true = refl
+  one_more e c false = refl
+
+  pair_step : pairs_at (suc n) low s at ≡ (pair_at low s at then more)
+  pair_step =
+      then_same (byte_at s at) _ _ (λ e. then_same (two_at s (at + 1)) _ _ (λ c. one_more e c (ltb low e && ltb 0 c)) ∙ sym (then_then (two_at s (at + 1)) (one e) more))
+      ∙ sym (then_then (byte_at s at) (λ e. two_at s (at + 1) then one e) more)
 
 -- i of n pairs, from the offset o on, are read
 pub record Filled (s : List ℕ) (o n i last at : ℕ) (ps : List Pair) : Type 0 where
@@ -47,13 +45,11 @@ filled_none s o n ps =
 
 -- what is left fails at the next pair, or goes on behind it
 module _ (s : List ℕ) (o n i last at : ℕ) (ps : List Pair) (h : Filled s o n i last at ps) (lt : i < n) where
-  next_is : (r : Result Pair Fault) → pair_at last s at ≡ r
-      → pairs_at n 0 s o ≡ ((r then (λ p. pairs_at (n - (i + 1)) p.editor s (at + 3) then (λ qs. Ok (p ∷ qs)))) then (λ qs. Ok (take i ps ++ qs)))
+  next_is : (r : Result Pair Fault) → pair_at last s at ≡ r → pairs_at n 0 s o ≡ ((r then more (n - (i + 1)) last s at) then (λ qs. Ok (take i ps ++ qs)))
   next_is r e =
       let left : n - i ≡ suc (n - (i + 1)) = omega arith in
       h.reads ∙ ap (λ (m : ℕ). pairs_at m last s at then (λ qs. Ok (take i ps ++ qs))) left
-      ∙ ap (λ (x : Result (List Pair) Fault). x then (λ qs. Ok (take i ps ++ qs)))
-      (pair_step (n - (i + 1)) last s at ∙ ap (λ (x : Result Pair Fault). x then (λ p. pairs_at (n - (i + 1)) p.editor s (at + 3) then (λ qs. Ok (p ∷ qs)))) e)
+      ∙ ap (λ (x : Result (List Pair) Fault). x then (λ qs. Ok (take i ps ++ qs))) (pair_step (n - (i + 1)) last s at ∙ ap (λ (x : Result Pair Fault). x then more (n - (i + 1)) last s at) e)
 
   pub pair_fails : (f : Fault) → pair_at last s at ≡ Err f → pairs_at n 0 s o ≡ Err f
   pair_fails f e = next_is (Err f) e
@@ -61,22 +57,21 @@ module _ (s : List ℕ) (o n i last at : ℕ) (ps : List Pair) (h : Filled s o n
   pub filled_more : (p : Pair) (end : ℕ) → pair_at last s at ≡ Ok p → end ≡ at + 3 → i < length ps → Filled s o n (i + 1) p.editor end (set ps i p)
   filled_more p end e there room =
       let front : take (i + 1) (set ps i p) ≡ take i ps ++ p ∷ [] = take_more_set ps i p room in
-      let more = pairs_at (n - (i + 1)) p.editor s (at + 3) in
+      let rest = pairs_at (n - (i + 1)) p.editor s in
       record {
         reads =
             next_is (Ok p) e
-            ∙ then_then more (λ qs. Ok (p ∷ qs)) (λ qs. Ok (take i ps ++ qs))
-            ∙ ap (λ (f : List Pair → List Pair). more then (λ qs. Ok (f qs))) (λ j qs. sym (append_assoc (take i ps) (p ∷ []) qs) j)
-            ∙ ap (λ (t : List Pair). more then (λ qs. Ok (t ++ qs))) (sym front)
-            ∙ ap (λ (m : ℕ). pairs_at (n - (i + 1)) p.editor s m then (λ qs. Ok (take (i + 1) (set ps i p) ++ qs))) (sym there);
+            ∙ then_then (rest (at + 3)) (λ qs. Ok (p ∷ qs)) (λ qs. Ok (take i ps ++ qs))
+            ∙ then_same (rest (at + 3)) _ _ (λ qs. ap Ok (sym (append_assoc (take i ps) (p ∷ []) qs) ∙ ap (λ (t : List Pair). t ++ qs) (sym front)))
+            ∙ ap (λ (m : ℕ). rest m then (λ qs. Ok (take (i + 1) (set ps i p) ++ qs))) (sym there);
         place = omega (arith, h.place);
       }
 
 -- a pair that is read ascends
 pair_rises : (low : ℕ) (s : List ℕ) (at : ℕ) (p : Pair) → pair_at low s at ≡ Ok p → (ltb low p.editor && ltb 0 p.count) ≡ true
 pair_rises low s at p h =
-    let t = went_on (byte_at s at) (λ e. two_at s (at + 1) then (λ c. cond (ltb low e && ltb 0 c) (Ok (record { editor = e; count = c })) (Err (Pairs at)))) p h in
-    let v = went_on (two_at s (at + 1)) (λ c. cond (ltb low t.0 && ltb 0 c) (Ok (record { editor = t.0; count = c })) (Err (Pairs at))) p t.2 in
+    let t = went_on (byte_at s at) _ _ h in
+    let v = went_on (two_at s (at + 1)) _ _ t.2 in
     by_test t.0 v.0 (ltb low t.0 && ltb 0 v.0) refl v.2
   where
     by_test : (e c : ℕ) (v : Bool) → (ltb low e && ltb 0 c) ≡ v → cond v (Ok (record { editor = e; count = c })) (Err (Pairs at)) ≡ Ok p → (ltb low p.editor && ltb 0 p.count) ≡ true
@@ -87,8 +82,8 @@ pair_rises low s at p h =
 pairs_rise : (n low : ℕ) (s : List ℕ) (at : ℕ) (ps : List Pair) → pairs_at n low s at ≡ Ok ps → ascending low ps ≡ true
 pairs_rise zero low s at ps e = ap (ascending low) (sym (ok_same e))
 pairs_rise (suc n) low s at ps e =
-    let t = went_on (pair_at low s at) (λ p. pairs_at n p.editor s (at + 3) then (λ ps. Ok (p ∷ ps))) ps (sym (pair_step n low s at) ∙ e) in
-    let v = went_on (pairs_at n t.0.editor s (at + 3)) (λ ps. Ok (t.0 ∷ ps)) ps t.2 in
+    let t = went_on (pair_at low s at) (more n low s at) ps (sym (pair_step n low s at) ∙ e) in
+    let v = went_on (pairs_at n t.0.editor s (at + 3)) _ _ t.2 in
     let one = and_parts (ltb low t.0.editor) (ltb 0 t.0.count) (pair_rises low s at t.0 t.1) in
     ap (ascending low) (sym (ok_same v.2))
     ∙ all_three (ltb low t.0.editor) (ltb 0 t.0.count) (ascending t.0.editor v.0) one.0 one.1 (pairs_rise n t.0.editor s (at + 3) v.0 v.1)

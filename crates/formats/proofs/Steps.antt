@@ -11,6 +11,10 @@ pub then_then : {A B C : Type 0} (r : Result A Fault) (f : A → Result B Fault)
 then_then (Ok x) f g = refl
 then_then (Err e) f g = refl
 
+pub then_same : {A B : Type 0} (r : Result A Fault) (f g : A → Result B Fault) → ((x : A) → f x ≡ g x) → (r then f) ≡ (r then g)
+then_same (Ok x) f g h = h x
+then_same (Err e) f g h = refl
+
 pub ok_same : {A : Type 0} {x y : A} → ◌≡◌ {A = Result A Fault} (Ok x) (Ok y) → x ≡ y
 ok_same e = cc
 
