@@ -9,8 +9,8 @@ use Rattle.edits.specs.declared.edit.Side.{Side}
 use Rattle.edits.specs.declared.edit.Parent.{Parent}
 use Rattle.formats.specs.declared.format.Format.{Format}
 use Rattle.formats.specs.Marks.{has_runs, insertion_mark, deletion_mark, run_mark}
-use Rattle.formats.specs.Fields.{◌then◌, byte_at, placement_at, removal_at}
-use Rattle.formats.specs.Records.{Raw, insertion, deletion, run, element_at, all_at, length_at, insertion_at, deletion_at, run_at, record_at}
+use Rattle.formats.specs.Fields.{byte_at, placement_at, removal_at}
+use Rattle.formats.specs.Records.{Raw, element_at, all_at, length_at, insertion_at, deletion_at, run_at, record_at}
 use Rattle.formats.proofs.Steps.{ok_same, err_ok, went_on}
 use Rattle.formats.specs.Expanded.{length_of, place_in, inserted, edit_within, edit_at, Whole}
 

@@ -1,4 +1,4 @@
-use Rattle.std.proofs.Common.{◌≡◌, ◌+◌, Ok, rules, arith}
+use Rattle.std.proofs.Common.{◌≡◌, ◌+◌, Ok, rules}
 use Rattle.formats.specs.Kept.{raw}
 use Rattle.formats.specs.Records.{record_at}
 use Rattle.formats.proofs.Whole.{record_whole}

@@ -1,7 +1,7 @@
-use Rattle.std.proofs.Common.{◌≡◌, ◌+◌, ◌<◌, ◌≤◌, List, length, sym, subst, ap, ◌∙◌, arith, rules, Bor, ℕ, Ok, Err}
+use Rattle.std.proofs.Common.{◌≡◌, sym, rules, Ok, Err}
 use Rattle.std.proofs.lemmas.Result.{err_from_is_err_and}
 use Rattle.formats.specs.Fields.{pair_at}
-use Rattle.formats.proofs.Filling.{Filled, pair_fails, filled_more, clock_by, all_filled}
+use Rattle.formats.proofs.Filling.{pair_fails, filled_more, clock_by, all_filled}
 use Rattle.formats.proofs.reader.Reader.clock.Goals as goal
 
 pub returns-in_err-pair : goal.returns-in_err-pair
