@@ -13,16 +13,13 @@ use Rattle.edits.proofs.Conjunctions.{three, all_three}
 use Rattle.edits.proofs.Placed.{new, kept_parts}
 use Rattle.formats.specs.Expanded.{further}
 
-less_apart : (a b : ℕ) → a < b → eqb a b ≡ false
-less_apart a b h = ne_eqb a b (λ e. omega arith)
-
 -- the editor's count is the one that was put in
 count_counting : (e c : ℕ) (ps : List Pair) → count_of (counting e c ps) e ≡ c
 count_counting e c [] = ap (λ (v : Bool). cond v c 0) (eq-eqb e e refl)
 count_counting e c (p ∷ ps) = step (ltb p.editor e) (eqb p.editor e) refl (count_counting e c ps)
   where
     step : (v w : Bool) → ltb p.editor e ≡ v → count_of (counting e c ps) e ≡ c → count_of (cond v (p ∷ counting e c ps) (cond w (new e c ∷ ps) (new e c ∷ p ∷ ps))) e ≡ c
-    step true w is more = ap (λ (v : Bool). cond v p.count (count_of (counting e c ps) e)) (less_apart p.editor e (ltb-true p.editor e is)) ∙ more
+    step true w is more = ap (λ (v : Bool). cond v p.count (count_of (counting e c ps) e)) (ne_eqb p.editor e (λ q. omega (arith, ltb-true p.editor e is))) ∙ more
     step false true is more = ap (λ (v : Bool). cond v c (count_of ps e)) (eq-eqb e e refl)
     step false false is more = ap (λ (v : Bool). cond v c (count_of (p ∷ ps) e)) (eq-eqb e e refl)
 

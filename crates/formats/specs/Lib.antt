@@ -1,6 +1,6 @@
 pub mod Marks
 pub mod Fields
-pub mod Readers
 pub mod Records
 pub mod Kept
+pub mod Readers
 pub mod Expanded

@@ -98,7 +98,7 @@ fn later<K: Kind>(id: Id, clock: &Clock, i: usize, bytes: &[u8]) -> Result<Edit<
 fn id_further(id: Id, n: usize) -> Result<Id, Fault>
     ensures { MatchResult result (λ x. x ≡ further id n) (λ f. (f ≡ OutsideLimits) × (65535 < id.number + n)) }
 {
-    let n = u16::try_from(n).ok().ok_or(Fault::OutsideLimits)?;
+    let n = u16::try_from(n).map_err(|_| Fault::OutsideLimits)?;
     let number = id.number.checked_add(n).ok_or(Fault::OutsideLimits)?;
     Ok(Id {
         editor: id.editor,
@@ -106,11 +106,11 @@ fn id_further(id: Id, n: usize) -> Result<Id, Fault>
     })
 }
 
-// By its offset, since `chunks_exact(..).nth(i)` would walk over the elements before it.
 /// The bytes of the element at the place `i`.
 fn element_of<K: Kind>(elements: &[u8], i: usize) -> Option<&[u8]>
     ensures { MatchOption result (length elements.now < i * K.Kind.width + K.Kind.width) (λ b. b.now ≡ take K.Kind.width (drop (i * K.Kind.width) elements.now)) }
 {
+    // By the offset, since `chunks_exact(..).nth(i)` would walk over the elements before it.
     let start = i.checked_mul(K::bytes())?;
     elements.get(start..)?.get(..K::bytes())
 }

@@ -51,13 +51,13 @@ impl Reader<'_> {
         }
     }
 
-    // Not `TryFrom<u8> for Side`: that would stand in `edits`, which does not know the bytes of a record.
     /// A side: 0 is left, 1 is right.
     fn side(&mut self) -> Result<Side, Fault>
         ensures value { result ≡ side_at self.old.input.now self.old.at }
         ensures moved { OnOk result (MovesTo self.old self.new (self.old.at + 1)) }
     {
         let place = self.at;
+        // Not by a `TryFrom<u8>`: that would stand in `edits`, which does not know the bytes of a record.
         match self.byte()? {
             0 => Ok(Side::Left),
             1 => Ok(Side::Right),

@@ -17,7 +17,7 @@ pub(crate) struct Reader<'a> {
 impl<'a> Reader<'a> {
     ghost use Rattle.formats.specs.Readers.{MovesTo};
 
-    /// Begins at the offset, which may lie anywhere.
+    /// Begins at the offset, which may lie anywhere: one behind the input's end is refused as a field that is cut off.
     pub(crate) fn new(input: &'a [u8], at: usize) -> Result<Reader<'a>, Fault>
         ensures { MatchResult result (λ x. (x.input ≡ input.entry) × (x.at ≡ at)) (λ e. (e ≡ Extent (length input.now)) × (length input.now < at)) }
     {

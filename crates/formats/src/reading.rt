@@ -3,7 +3,7 @@ ghost use Rattle.std.specs.Prelude.{◌≡◌, ◌+◌, ◌<◌, ◌≤◌, leng
 ghost use Rattle.formats.specs.Records.{length_at, insertion_at, deletion_at, run_at, fields_at, record_at};
 ghost use Rattle.formats.specs.Expanded.{Whole};
 ghost use Rattle.formats.specs.Kept.{raw, Kept};
-ghost use Rattle.formats.specs.Readers.{MovesTo};
+ghost use Rattle.formats.specs.Readers.{MovesTo, Reads};
 
 use crate::format::Format;
 use crate::guard::Guard;
@@ -16,7 +16,7 @@ use elements::Kind;
 impl<'a> Reader<'a> {
     /// An insertion, from behind its mark.
     fn insertion<K: Kind>(&mut self) -> Result<Record<'a>, Fault>
-        ensures { MatchResult result (λ x. (insertion_at K.Kind.width K.Kind.unpacked self.old.input.now self.old.at ≡ Ok (raw x, self.new.at)) × Kept K.Kind.width x × (self.old.at < self.new.at) × (self.new.at ≤ length self.old.input.now)) (λ e. insertion_at K.Kind.width K.Kind.unpacked self.old.input.now self.old.at ≡ Err e) }
+        ensures { Reads K.Kind.width self.old self.new (insertion_at K.Kind.width K.Kind.unpacked self.old.input.now self.old.at) result }
     {
         let placement = self.placement()?;
         let offset = self.at;
@@ -33,7 +33,7 @@ impl<'a> Reader<'a> {
 
     /// A deletion, likewise.
     fn deletion<K: Kind>(&mut self) -> Result<Record<'a>, Fault>
-        ensures { MatchResult result (λ x. (deletion_at self.old.input.now self.old.at ≡ Ok (raw x, self.new.at)) × Kept K.Kind.width x × (self.old.at < self.new.at) × (self.new.at ≤ length self.old.input.now)) (λ e. deletion_at self.old.input.now self.old.at ≡ Err e) }
+        ensures { Reads K.Kind.width self.old self.new (deletion_at self.old.input.now self.old.at) result }
     {
         let removal = self.removal()?;
         Ok(Record::Deletion {
@@ -61,7 +61,7 @@ impl<'a> Reader<'a> {
 
     /// A run, likewise.
     fn run<K: Kind>(&mut self) -> Result<Record<'a>, Fault>
-        ensures { MatchResult result (λ x. (run_at K.Kind.width K.Kind.unpacked self.old.input.now self.old.at ≡ Ok (raw x, self.new.at)) × Kept K.Kind.width x × (self.old.at < self.new.at) × (self.new.at ≤ length self.old.input.now)) (λ e. run_at K.Kind.width K.Kind.unpacked self.old.input.now self.old.at ≡ Err e) }
+        ensures { Reads K.Kind.width self.old self.new (run_at K.Kind.width K.Kind.unpacked self.old.input.now self.old.at) result }
     {
         let placement = self.placement()?;
         let len = self.run_length(placement.stamp.id)?;
@@ -85,7 +85,7 @@ impl<'a> Reader<'a> {
         bytes: [u8; 2],
         mark: usize,
     ) -> Result<Record<'a>, Fault>
-        ensures { MatchResult result (λ x. (fields_at K.Kind.width K.Kind.unpacked format (slice_index bytes 0) (slice_index bytes 1) mark self.old.input.now self.old.at ≡ Ok (raw x, self.new.at)) × Kept K.Kind.width x × (self.old.at < self.new.at) × (self.new.at ≤ length self.old.input.now)) (λ e. fields_at K.Kind.width K.Kind.unpacked format (slice_index bytes 0) (slice_index bytes 1) mark self.old.input.now self.old.at ≡ Err e) }
+        ensures { Reads K.Kind.width self.old self.new (fields_at K.Kind.width K.Kind.unpacked format (slice_index bytes 0) (slice_index bytes 1) mark self.old.input.now self.old.at) result }
     {
         match &bytes {
             INSERTION => self.insertion::<K>(),
