@@ -13,16 +13,13 @@ use Rattle.edits.proofs.Conjunctions.{three, all_three}
 use Rattle.edits.proofs.Placed.{new, kept_parts}
 use Rattle.formats.specs.Expanded.{further}
 
-less_apart : (a b : ℕ) → a < b → eqb a b ≡ false
-less_apart a b h = ne_eqb a b (λ e. omega arith)
-
 -- the editor's count is the one that was put in
 count_counting : (e c : ℕ) (ps : List Pair) → count_of (counting e c ps) e ≡ c
 count_counting e c [] = ap (λ (v : Bool). cond v c 0) (eq-eqb e e refl)
 count_counting e c (p ∷ ps) = step (ltb p.editor e) (eqb p.editor e) refl (count_counting e c ps)
   where
     step : (v w : Bool) → ltb p.editor e ≡ v → count_of (counting e c ps) e ≡ c → count_of (cond v (p ∷ counting e c ps) (cond w (new e c ∷ ps) (new e c ∷ p ∷ ps))) e ≡ c
-    step true w is more = ap (λ (v : Bool). cond v p.count (count_of (counting e c ps) e)) (less_apart p.editor e (ltb-true p.editor e is)) ∙ more
+    step true w is more = ap (λ (v : Bool). cond v p.count (count_of (counting e c ps) e)) (ne_eqb p.editor e (λ q. omega (arith, ltb-true p.editor e is))) ∙ more
     step false true is more = ap (λ (v : Bool). cond v c (count_of ps e)) (eq-eqb e e refl)
     step false false is more = ap (λ (v : Bool). cond v c (count_of (p ∷ ps) e)) (eq-eqb e e refl)
 
@@ -90,20 +87,20 @@ module _ (id : Id) (x : Clock) (kept : stamp_kept id x ≡ true) where
       (λ h. let few : length (pairs_of x) < 16 = ltb-true (length (pairs_of x)) 16 h in omega (arith, length_most id.editor c (pairs_of x)))
       (or_cases (ltb 1 id.number) (ltb (length (pairs_of x)) 16) own.1)
 
-  -- the insertion at the place i, with a clock y that counts the one before it besides
-  module _ (i : ℕ) (some : 0 < i) (y : Clock) (counts : pairs_of y ≡ counting id.editor (id.number + (i - 1)) (pairs_of x)) where
-    own_count : count_of (pairs_of y) id.editor ≡ id.number + (i - 1)
-    own_count = ap (λ (ps : List Pair). count_of ps id.editor) counts ∙ count_counting id.editor (id.number + (i - 1)) (pairs_of x)
+  -- the insertion behind the place i, with a clock y that counts the one there besides
+  module _ (i : ℕ) (y : Clock) (counts : pairs_of y ≡ counting id.editor (id.number + i) (pairs_of x)) where
+    own_count : count_of (pairs_of y) id.editor ≡ id.number + i
+    own_count = ap (λ (ps : List Pair). count_of ps id.editor) counts ∙ count_counting id.editor (id.number + i) (pairs_of x)
 
-    pub later_stamp : clock_kept y ≡ true → stamp_kept (further id i) y ≡ true
+    pub later_stamp : clock_kept y ≡ true → stamp_kept (further id (i + 1)) y ≡ true
     later_stamp y_kept =
-        let own : eqb (count_of (pairs_of y) id.editor) (id.number + i - 1) ≡ true = eq-eqb _ _ (own_count ∙ omega arith) in
-        let late : 1 < id.number + i = omega (arith, parts.1) in
-        all_three (ltb 0 id.editor) (ltb 0 (id.number + i)) (clock_kept y && own_kept (further id i) (pairs_of y)) (lt-ltb _ _ parts.0) (lt-ltb _ _ (omega (arith, parts.1)))
-        (and_from (clock_kept y) (own_kept (further id i) (pairs_of y)) y_kept
-        (and_from (eqb (count_of (pairs_of y) id.editor) (id.number + i - 1)) (ltb 1 (id.number + i) || ltb (length (pairs_of y)) 16) own (or_left _ _ (lt-ltb _ _ late))))
+        let own : eqb (count_of (pairs_of y) id.editor) (id.number + (i + 1) - 1) ≡ true = eq-eqb _ _ (own_count ∙ omega arith) in
+        let late : 1 < id.number + (i + 1) = omega (arith, parts.1) in
+        all_three (ltb 0 id.editor) (ltb 0 (id.number + (i + 1))) (clock_kept y && own_kept (further id (i + 1)) (pairs_of y)) (lt-ltb _ _ parts.0) (lt-ltb _ _ (omega (arith, parts.1)))
+        (and_from (clock_kept y) (own_kept (further id (i + 1)) (pairs_of y)) y_kept
+        (and_from (eqb (count_of (pairs_of y) id.editor) (id.number + (i + 1) - 1)) (ltb 1 (id.number + (i + 1)) || ltb (length (pairs_of y)) 16) own (or_left _ _ (lt-ltb _ _ late))))
 
-    pub later_parent : parent_kept (pairs_of y) (Entry (further id (i - 1))) Right ≡ true
+    pub later_parent : parent_kept (pairs_of y) (Entry (further id i)) Right ≡ true
     later_parent =
-        all_three (ltb 0 id.editor) (ltb 0 (id.number + (i - 1))) (leb (id.number + (i - 1)) (count_of (pairs_of y) id.editor)) (lt-ltb _ _ parts.0) (lt-ltb _ _ (omega (arith, parts.1)))
+        all_three (ltb 0 id.editor) (ltb 0 (id.number + i)) (leb (id.number + i) (count_of (pairs_of y) id.editor)) (lt-ltb _ _ parts.0) (lt-ltb _ _ (omega (arith, parts.1)))
         (le-leb _ _ (omega (arith, own_count)))

@@ -9,20 +9,10 @@ use Rattle.edits.specs.declared.edit.Side.{Side}
 use Rattle.edits.specs.declared.edit.Parent.{Parent}
 use Rattle.formats.specs.declared.format.Format.{Format}
 use Rattle.formats.specs.Marks.{has_runs, insertion_mark, deletion_mark, run_mark}
-use Rattle.formats.specs.Fields.{◌then◌, byte_at, placement_at, removal_at}
-use Rattle.formats.specs.Records.{Raw, insertion, deletion, run, element_at, all_at, length_at, insertion_at, deletion_at, run_at, record_at}
+use Rattle.formats.specs.Fields.{byte_at, placement_at, removal_at}
+use Rattle.formats.specs.Records.{Raw, element_at, all_at, length_at, insertion_at, deletion_at, run_at, record_at}
+use Rattle.formats.proofs.Steps.{ok_same, err_ok, went_on}
 use Rattle.formats.specs.Expanded.{length_of, place_in, inserted, edit_within, edit_at, Whole}
-
-ok_same : {A : Type 0} {x y : A} → ◌≡◌ {A = Result A Fault} (Ok x) (Ok y) → x ≡ y
-ok_same e = cc
-
-err_ok : {A : Type 0} {f : Fault} {y : A} → ◌≡◌ {A = Result A Fault} (Err f) (Ok y) → ⊥
-err_ok e = let z : ◌≡◌ {A = ℕ} 0 1 = cc in omega arith
-
--- what went on had a value to go on with
-went_on : {A B : Type 0} (r : Result A Fault) (f : A → Result B Fault) (y : B) → (r then f) ≡ Ok y → (x : A) × (r ≡ Ok x) × (f x ≡ Ok y)
-went_on (Ok x) f y e = (x, refl, e)
-went_on (Err g) f y e = absurd (err_ok e)
 
 module _ {K : Type 0} (w : ℕ) (u : List ℕ → Option K) where
   element_some : (s : List ℕ) (at : ℕ) (b : List ℕ) → element_at w u s at ≡ Ok b → (b ≡ take w (drop at s)) × (is_some (u b) ≡ true)
@@ -36,12 +26,12 @@ module _ {K : Type 0} (w : ℕ) (u : List ℕ → Option K) where
   all_some : (m : ℕ) (s : List ℕ) (at : ℕ) → all_at w u m s at ≡ Ok tt → (i : ℕ) → i < m → is_some (u (take w (drop (at + i * w) s))) ≡ true
   all_some zero s at e i lt = absurd (omega (arith, lt))
   all_some (suc m) s at e zero lt =
-      let t = went_on (element_at w u s at) (λ _. all_at w u m s (at + w)) tt e in
+      let t = went_on (element_at w u s at) _ _ e in
       let h = element_some s at t.0 t.1 in
       let here : at ≡ at + 0 * w = omega (arith, zero-mul w) in
       ap (λ (o : ℕ). is_some (u (take w (drop o s)))) (sym here) ∙ ap (λ (b : List ℕ). is_some (u b)) (sym h.0) ∙ h.1
   all_some (suc m) s at e (suc i) lt =
-      let t = went_on (element_at w u s at) (λ _. all_at w u m s (at + w)) tt e in
+      let t = went_on (element_at w u s at) _ _ e in
       let there : at + w + i * w ≡ at + suc i * w = omega (arith, suc-mul i w) in
       ap (λ (o : ℕ). is_some (u (take w (drop o s)))) (sym there) ∙ all_some m s (at + w) t.2 i (omega (arith, lt))
 
@@ -52,24 +42,19 @@ module _ {K : Type 0} (w : ℕ) (u : List ℕ → Option K) where
   within_some : (r : Raw) (i : ℕ) → i < length_of r → is_some (edit_within w u r i) ≡ true → is_some (edit_at w u r i) ≡ true
   within_some r i lt e = ap (λ (v : Bool). is_some (cond v (edit_within w u r i) None)) (lt-ltb i (length_of r) lt) ∙ e
 
-  whole_first : (r r' : Raw) (n n' : ℕ) → Whole w u r → ◌≡◌ {A = Result (Raw × ℕ) Fault} (Ok (r, n)) (Ok (r', n')) → Whole w u r'
-  whole_first r r' n n' h e = subst (Whole w u) (ap (λ (p : Raw × ℕ). p.0) (ok_same e)) h
+  -- what a record is read as is whole if each edit within it is there
+  whole_by : (r r' : Raw) (n n' : ℕ) → ((i : ℕ) → i < length_of r → is_some (edit_within w u r i) ≡ true) → ◌≡◌ {A = Result (Raw × ℕ) Fault} (Ok (r, n)) (Ok (r', n')) → Whole w u r'
+  whole_by r r' n n' h e = subst (Whole w u) (ap (λ (p : Raw × ℕ). p.0) (ok_same e)) (λ i lt. within_some r i lt (h i lt))
 
   insertion_whole : (s : List ℕ) (at : ℕ) (r : Raw) (end : ℕ) → insertion_at w u s at ≡ Ok (r, end) → Whole w u r
   insertion_whole s at r end e =
-      let t = went_on (placement_at s at) (λ x. element_at w u s (at + 8 + 3 * length x.1) then (λ b. Ok (insertion x.0 x.1 x.2 x.3 (at + 8 + 3 * length x.1) b, at + 8 + 3 * length x.1 + w))) (r, end) e in
-      let x = t.0 in
-      let o = at + 8 + 3 * length x.1 in
-      let v = went_on (element_at w u s o) (λ b. Ok (insertion x.0 x.1 x.2 x.3 o b, o + w)) (r, end) t.2 in
-      let h = element_some s o v.0 v.1 in
-      whole_first (insertion x.0 x.1 x.2 x.3 o v.0) r (o + w) end
-      (λ i lt. within_some (insertion x.0 x.1 x.2 x.3 o v.0) i lt (inserted_some x (u v.0) h.1)) v.2
+      let t = went_on (placement_at s at) _ _ e in
+      let o = at + 8 + 3 * length t.0.1 in
+      let v = went_on (element_at w u s o) _ _ t.2 in
+      whole_by _ r _ end (λ i lt. inserted_some t.0 (u v.0) (element_some s o v.0 v.1).1) v.2
 
   deletion_whole : (s : List ℕ) (at : ℕ) (r : Raw) (end : ℕ) → deletion_at s at ≡ Ok (r, end) → Whole w u r
-  deletion_whole s at r end e =
-      let t = went_on (removal_at s at) (λ x. Ok (deletion x.0 x.1 x.2, at + 7 + 3 * length x.1)) (r, end) e in
-      let x = t.0 in
-      whole_first (deletion x.0 x.1 x.2) r (at + 7 + 3 * length x.1) end (λ i lt. within_some (deletion x.0 x.1 x.2) i lt refl) t.2
+  deletion_whole s at r end e = whole_by _ r _ end (λ i lt. refl) (went_on (removal_at s at) _ _ e).2
 
   -- the bytes of one element among those of all
   one_of : (s : List ℕ) (q m i : ℕ) → i < m → take w (drop (i * w) (take (m * w) (drop q s))) ≡ take w (drop (q + i * w) s)
@@ -84,28 +69,20 @@ module _ {K : Type 0} (w : ℕ) (u : List ℕ → Option K) where
 
   run_whole : (s : List ℕ) (at : ℕ) (r : Raw) (end : ℕ) → run_at w u s at ≡ Ok (r, end) → Whole w u r
   run_whole s at r end e =
-      let t = went_on (placement_at s at) (λ x. length_at x.0 s (at + 8 + 3 * length x.1) then (λ m. all_at w u m s (at + 9 + 3 * length x.1) then (λ _.
-      Ok (run x.0 x.1 x.2 x.3 m (at + 9 + 3 * length x.1) (take (m * w) (drop (at + 9 + 3 * length x.1) s)), at + 9 + 3 * length x.1 + m * w)))) (r, end) e in
+      let t = went_on (placement_at s at) _ _ e in
       let x = t.0 in
       let q = at + 9 + 3 * length x.1 in
-      let v = went_on (length_at x.0 s (at + 8 + 3 * length x.1)) (λ m. all_at w u m s q then (λ _. Ok (run x.0 x.1 x.2 x.3 m q (take (m * w) (drop q s)), q + m * w))) (r, end) t.2 in
+      let v = went_on (length_at x.0 s (at + 8 + 3 * length x.1)) _ _ t.2 in
       let m = v.0 in
-      let z = went_on (all_at w u m s q) (λ _. Ok (run x.0 x.1 x.2 x.3 m q (take (m * w) (drop q s)), q + m * w)) (r, end) v.2 in
-      let one : Raw = run x.0 x.1 x.2 x.3 m q (take (m * w) (drop q s)) in
-      whole_first one r (q + m * w) end
-      (λ i lt. within_some one i lt (inserted_some (place_in x.0 x.1 x.2 x.3 i) (u (take w (drop (i * w) (take (m * w) (drop q s)))))
-      (ap (λ (b : List ℕ). is_some (u b)) (one_of s q m i lt) ∙ all_some m s q z.1 i lt))) z.2
-
-  -- what follows a mark
-  abbrev chosen : Format → List ℕ → ℕ → ℕ → ℕ → Result (Raw × ℕ) Fault
-  chosen format s at a b =
-      cond (insertion_mark a b) (insertion_at w u s (at + 2))
-      (cond (deletion_mark a b) (deletion_at s (at + 2)) (cond (has_runs format && run_mark a b) (run_at w u s (at + 2)) (Err (Mark at))))
+      let z = went_on (all_at w u m s q) _ _ v.2 in
+      whole_by _ r _ end
+      (λ i lt. inserted_some (place_in x.0 x.1 x.2 x.3 i) (u (take w (drop (i * w) (take (m * w) (drop q s)))))
+      (ap (λ (b : List ℕ). is_some (u b)) (one_of s q m i lt) ∙ all_some m s q z.1 i lt)) z.2
 
   pub record_whole : (format : Format) (s : List ℕ) (at : ℕ) (r : Raw) (end : ℕ) → record_at w u format s at ≡ Ok (r, end) → Whole w u r
   record_whole format s at r end e =
-      let t = went_on (byte_at s at) (λ a. byte_at s (at + 1) then (λ b. chosen format s at a b)) (r, end) e in
-      let v = went_on (byte_at s (at + 1)) (λ b. chosen format s at t.0 b) (r, end) t.2 in
+      let t = went_on (byte_at s at) _ _ e in
+      let v = went_on (byte_at s (at + 1)) _ _ t.2 in
       by (insertion_mark t.0 v.0) (deletion_mark t.0 v.0) (has_runs format && run_mark t.0 v.0) v.2
     where
       by : (k l m : Bool) → cond k (insertion_at w u s (at + 2)) (cond l (deletion_at s (at + 2)) (cond m (run_at w u s (at + 2)) (Err (Mark at)))) ≡ Ok (r, end) → Whole w u r

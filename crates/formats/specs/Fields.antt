@@ -38,6 +38,11 @@ name_at s at =
     (two_at s (at + 1) then (λ n. cond (nat_lt 0 n) (Ok (record { editor = e; number = n })) (Err (Numbering (at + 1)))))
     (Err (Numbering at)))
 
+-- a pair whose editor is above low
+abbrev pub pair_at : ℕ → List ℕ → ℕ → Result Pair Fault
+pair_at low s at =
+    byte_at s at then (λ e. two_at s (at + 1) then (λ c. cond (nat_lt low e && nat_lt 0 c) (Ok (record { editor = e; count = c })) (Err (Pairs at))))
+
 -- n pairs from the offset at on, the editors ascending from above low
 abbrev pub pairs_at : ℕ → ℕ → List ℕ → ℕ → Result (List Pair) Fault
 pairs_at zero low s at = Ok []
@@ -57,6 +62,10 @@ stamp_at s at = name_at s at then (λ id. clock_at s (at + 3) then (λ ps. cond 
 -- 0 is left, 1 is right
 abbrev pub side_of : ℕ → Side
 side_of b = cond (b == 0) Left Right
+
+-- a side, which is 0 or 1
+abbrev pub side_at : List ℕ → ℕ → Result Side Fault
+side_at s at = byte_at s at then (λ b. cond (nat_lt b 2) (Ok (side_of b)) (Err (Reference at)))
 
 -- 0.0 is the start
 abbrev pub parent_of : Id → Parent

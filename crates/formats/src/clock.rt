@@ -1,41 +1,45 @@
 //! The clock of a head.
-ghost use Rattle.std.specs.Prelude.{◌≡◌, ◌+◌, ◌*◌, ◌≤◌, true, length, Ok, Err, MatchResult};
+ghost use Rattle.std.specs.Prelude.{◌≡◌, ◌+◌, ◌*◌, true, length, OnOk, Ok, Err, MatchResult};
 ghost use Rattle.edits.specs.Clocks.{pairs_of, clock_kept};
-ghost use Rattle.formats.specs.Fields.{clock_at};
+ghost use Rattle.formats.specs.Fields.{pair_at, clock_at};
+ghost use Rattle.formats.specs.Readers.{MovesTo};
 
-use crate::fields::{byte_at, two_at};
-use edits::{Clock, Fault, Pair, Stamp};
+use crate::reader::Reader;
+use edits::{Clock, Fault, Pair};
 
-/// The count of pairs, and the pairs.
-pub(crate) fn clock_at(input: &[u8], at: usize) -> Result<Clock, Fault>
-    ensures { MatchResult result (λ x. (clock_at input.now at ≡ Ok (pairs_of x)) × (clock_kept x ≡ true) × (at + 1 + 3 * length (pairs_of x) ≤ length input.now)) (λ e. clock_at input.now at ≡ Err e) }
-{
-    let len = byte_at(input, at)?;
-    if len > 16 {
-        return Err(Fault::Pairs(at));
-    }
-    let mut pairs = [Pair {
-        editor: 0,
-        count: 0,
-    }; 16];
-    let mut last = 0;
-    for i in 0..len as usize {
-        let place = at + 1 + 3 * i;
-        let editor = byte_at(input, place)?;
-        let count = two_at(input, place + 1)?;
+impl Reader<'_> {
+    /// A pair, whose editor comes behind `last`.
+    fn pair(&mut self, last: u8) -> Result<Pair, Fault>
+        ensures value { result ≡ pair_at last self.old.input.now self.old.at }
+        ensures moved { OnOk result (MovesTo self.old self.new (self.old.at + 3)) }
+    {
+        let place = self.at;
+        let editor = self.byte()?;
+        let count = self.two()?;
         if editor <= last || count == 0 {
             return Err(Fault::Pairs(place));
         }
-        pairs[i] = Pair { editor, count };
-        last = editor;
+        Ok(Pair { editor, count })
     }
-    Ok(Clock { len, pairs })
-}
 
-/// How many bytes the head has: the identifier, the count of pairs, the pairs.
-pub(crate) fn head_len(stamp: &Stamp) -> usize
-    ensures value { result ≡ 4 + 3 * length (pairs_of stamp.now.clock) }
-    ensures most { result ≤ 52 }
-{
-    4 + 3 * stamp.clock.len as usize
+    /// The count of pairs, and the pairs.
+    pub(crate) fn clock(&mut self) -> Result<Clock, Fault>
+        ensures { MatchResult result (λ x. (clock_at self.old.input.now self.old.at ≡ Ok (pairs_of x)) × (clock_kept x ≡ true) × MovesTo self.old self.new (self.old.at + 1 + 3 * length (pairs_of x))) (λ e. clock_at self.old.input.now self.old.at ≡ Err e) }
+    {
+        let place = self.at;
+        let len = self.byte()?;
+        if len > 16 {
+            return Err(Fault::Pairs(place));
+        }
+        let mut pairs = [Pair {
+            editor: 0,
+            count: 0,
+        }; 16];
+        let mut last = 0;
+        for pair in &mut pairs[..usize::from(len)] {
+            *pair = self.pair(last)?;
+            last = pair.editor;
+        }
+        Ok(Clock { len, pairs })
+    }
 }

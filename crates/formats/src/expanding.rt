@@ -1,5 +1,5 @@
 //! The edits that a record stands for.
-ghost use Rattle.std.specs.Prelude.{◌≡◌, ◌+◌, ◌-◌, ◌*◌, ◌<◌, ◌≤◌, true, length, take, drop, Some, None, MatchResult, ◌≢◌};
+ghost use Rattle.std.specs.Prelude.{◌≡◌, ◌+◌, ◌-◌, ◌*◌, ◌<◌, ◌≤◌, true, length, take, drop, Some, None, MatchOption, MatchResult, ◌≢◌};
 ghost use Rattle.edits.specs.declared.edit.Parent.TheVariants.{Entry};
 ghost use Rattle.edits.specs.declared.edit.Side.TheVariants.{Right};
 ghost use Rattle.edits.specs.declared.fault.Fault.TheVariants.{OutsideLimits};
@@ -21,7 +21,7 @@ impl Record<'_> {
         match self {
             Record::Insertion { .. } => 1,
             Record::Deletion { .. } => 1,
-            Record::Run { len, .. } => *len as usize,
+            Record::Run { len, .. } => usize::from(*len),
         }
     }
 
@@ -33,30 +33,28 @@ impl Record<'_> {
         if i >= self.len() {
             return Err(Fault::OutsideLimits);
         }
-        match self {
+        match *self {
             Record::Insertion {
                 id,
                 clock,
                 parent,
                 side,
-                offset: _,
                 element,
-            } => insertion::<K>(*id, *clock, *parent, *side, element),
-            Record::Deletion { id, clock, target } => deletion::<K>(*id, *clock, *target),
+                ..
+            } => insertion::<K>(id, clock, parent, side, element),
+            Record::Deletion { id, clock, target } => deletion::<K>(id, clock, target),
             Record::Run {
                 id,
                 clock,
                 parent,
                 side,
-                len: _,
-                offset: _,
                 elements,
+                ..
             } => {
-                let element = element_of::<K>(elements, i)?;
-                if i == 0 {
-                    insertion::<K>(*id, *clock, *parent, *side, element)
-                } else {
-                    later::<K>(*id, clock, i, element)
+                let element = element_of::<K>(elements, i).ok_or(Fault::OutsideLimits)?;
+                match i.checked_sub(1) {
+                    None => insertion::<K>(id, clock, parent, side, element),
+                    Some(before) => later::<K>(id, &clock, before, element),
                 }
             }
         }
@@ -73,9 +71,7 @@ fn insertion<K: Kind>(
 ) -> Result<Edit<K>, Fault>
     ensures { MatchResult result (λ e. inserted K.Kind.width K.Kind.unpacked (id, pairs_of clock, parent, side) (K.Kind.unpacked bytes.now) ≡ Some (plain e)) (λ f. (f ≡ OutsideLimits) × (stamp_kept id clock ≡ true → parent_kept (pairs_of clock) parent side ≡ true → K.Kind.unpacked bytes.now ≡ None)) }
 {
-    let Some(element) = K::read(bytes) else {
-        return Err(Fault::OutsideLimits);
-    };
+    let element = K::read(bytes).ok_or(Fault::OutsideLimits)?;
     let stamp = Stamp::new(id, clock)?;
     let placement = Placement::new(stamp, parent, side)?;
     Ok(Edit::Insertion { placement, element })
@@ -88,15 +84,13 @@ fn deletion<K: Kind>(id: Id, clock: Clock, target: Id) -> Result<Edit<K>, Fault>
     Ok(Edit::Deletion(Removal::new(stamp, target)?))
 }
 
-/// The insertion at the place `i` of the run that begins with the edit; `i` is not 0.
+/// The insertion behind the place `i` of the run that begins with the edit.
 fn later<K: Kind>(id: Id, clock: &Clock, i: usize, bytes: &[u8]) -> Result<Edit<K>, Fault>
-    ensures { MatchResult result (λ e. inserted K.Kind.width K.Kind.unpacked (further id i, counting id.editor (id.number + (i - 1)) (pairs_of clock.now), Entry (further id (i - 1)), Right) (K.Kind.unpacked bytes.now) ≡ Some (plain e)) (λ f. (f ≡ OutsideLimits) × (stamp_kept id clock.now ≡ true → 0 < i → id.number + i ≤ 65535 → K.Kind.unpacked bytes.now ≡ None)) }
+    ensures { MatchResult result (λ e. inserted K.Kind.width K.Kind.unpacked (further id (i + 1), counting id.editor (id.number + i) (pairs_of clock.now), Entry (further id i), Right) (K.Kind.unpacked bytes.now) ≡ Some (plain e)) (λ f. (f ≡ OutsideLimits) × (stamp_kept id clock.now ≡ true → id.number + i < 65535 → K.Kind.unpacked bytes.now ≡ None)) }
 {
-    let before = id_further(id, i.saturating_sub(1))?;
-    let id = id_further(id, i)?;
-    let Some(clock) = clock.counting(before) else {
-        return Err(Fault::OutsideLimits);
-    };
+    let before = id_further(id, i)?;
+    let id = id_further(before, 1)?;
+    let clock = clock.counting(before).ok_or(Fault::OutsideLimits)?;
     insertion::<K>(id, clock, Parent::Entry(before), Side::Right, bytes)
 }
 
@@ -104,25 +98,19 @@ fn later<K: Kind>(id: Id, clock: &Clock, i: usize, bytes: &[u8]) -> Result<Edit<
 fn id_further(id: Id, n: usize) -> Result<Id, Fault>
     ensures { MatchResult result (λ x. x ≡ further id n) (λ f. (f ≡ OutsideLimits) × (65535 < id.number + n)) }
 {
-    if n > (u16::MAX - id.number) as usize {
-        return Err(Fault::OutsideLimits);
-    }
+    let n = u16::try_from(n).map_err(|_| Fault::OutsideLimits)?;
+    let number = id.number.checked_add(n).ok_or(Fault::OutsideLimits)?;
     Ok(Id {
         editor: id.editor,
-        number: id.number + n as u16,
+        number,
     })
 }
 
 /// The bytes of the element at the place `i`.
-fn element_of<K: Kind>(elements: &[u8], i: usize) -> Result<&[u8], Fault>
-    ensures { MatchResult result (λ b. b.now ≡ take K.Kind.width (drop (i * K.Kind.width) elements.now)) (λ f. (f ≡ OutsideLimits) × (length elements.now < i * K.Kind.width + K.Kind.width)) }
+fn element_of<K: Kind>(elements: &[u8], i: usize) -> Option<&[u8]>
+    ensures { MatchOption result (length elements.now < i * K.Kind.width + K.Kind.width) (λ b. b.now ≡ take K.Kind.width (drop (i * K.Kind.width) elements.now)) }
 {
-    let width = K::bytes();
-    let Some(start) = i.checked_mul(width) else {
-        return Err(Fault::OutsideLimits);
-    };
-    if start > elements.len() || elements.len() - start < width {
-        return Err(Fault::OutsideLimits);
-    }
-    Ok(&elements[start..start + width])
+    // By the offset, since `chunks_exact(..).nth(i)` would walk over the elements before it.
+    let start = i.checked_mul(K::bytes())?;
+    elements.get(start..)?.get(..K::bytes())
 }

@@ -1,24 +1,20 @@
 //! The guard on the reading offset.
-ghost use Rattle.std.specs.Prelude.{◌≡◌, if◌then◌else◌};
+ghost use Rattle.std.specs.Prelude.{◌≡◌, unwrap_or};
 
-/// Holds the caller's offset while a record is read. Unless the record was accepted, the offset goes back to the mark.
+/// Holds the caller's offset while a record is read.
 pub(crate) struct Guard<'a> {
     pub(crate) at: &'a mut usize,
-    pub(crate) mark: usize,
-    pub(crate) accepted: bool,
+    /// Where the offset goes back to; none once the record is accepted.
+    pub(crate) back_to: Option<usize>,
 }
 
 impl Drop for Guard<'_> {
     fn drop(self)
-        ensures { self.exit.0.now ≡ (if self.entry.accepted then self.entry.at.now else self.entry.mark) }
+        ensures { self.exit.0.now ≡ unwrap_or self.entry.back_to self.entry.at.now }
     {
-        if !self.accepted {
-            *self.at = self.mark;
+        let Guard { at, back_to } = self;
+        if let Some(mark) = back_to {
+            *at = mark;
         }
-        let Guard {
-            at: _,
-            mark: _,
-            accepted: _,
-        } = self;
     }
 }

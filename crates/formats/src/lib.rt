@@ -8,6 +8,7 @@ mod fields;
 mod format;
 mod guard;
 mod marks;
+mod reader;
 mod reading;
 mod record;
 

@@ -35,11 +35,7 @@ impl Format {
 pub fn head_at(input: &[u8], at: usize) -> Option<Format>
     ensures { result ≡ head_at input.now at }
 {
-    if at >= input.len() || input.len() - at < 2 {
-        return None;
-    }
-    let mark = [input[at], input[at + 1]];
-    match &mark {
+    match input.get(at..)?.first_chunk()? {
         LOG_SIX => Some(Format::Six),
         LOG_SEVEN => Some(Format::Seven),
         _ => None,

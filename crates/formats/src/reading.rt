@@ -3,79 +3,71 @@ ghost use Rattle.std.specs.Prelude.{◌≡◌, ◌+◌, ◌<◌, ◌≤◌, leng
 ghost use Rattle.formats.specs.Records.{length_at, insertion_at, deletion_at, run_at, fields_at, record_at};
 ghost use Rattle.formats.specs.Expanded.{Whole};
 ghost use Rattle.formats.specs.Kept.{raw, Kept};
+ghost use Rattle.formats.specs.Readers.{MovesTo, Reads};
 
-use crate::clock::head_len;
-use crate::element::{element_at, elements_at};
-use crate::fields::{byte_at, placement_at, removal_at};
 use crate::format::Format;
 use crate::guard::Guard;
 use crate::marks::{DELETION, INSERTION, RUN};
+use crate::reader::Reader;
 use crate::record::Record;
 use edits::{Fault, Id};
 use elements::Kind;
 
-/// An insertion, from behind its mark, and the offset behind it.
-fn insertion_at<K: Kind>(input: &[u8], at: usize) -> Result<(Record<'_>, usize), Fault>
-    ensures { MatchResult result (λ x. (insertion_at K.Kind.width K.Kind.unpacked input.now at ≡ Ok (raw x.0, x.1)) × Kept K.Kind.width x.0 × (at < x.1) × (x.1 ≤ length input.now)) (λ e. insertion_at K.Kind.width K.Kind.unpacked input.now at ≡ Err e) }
-{
-    let placement = placement_at(input, at)?;
-    let offset = at + head_len(&placement.stamp) + 4;
-    let element = element_at::<K>(input, offset)?;
-    Ok((
-        Record::Insertion {
+impl<'a> Reader<'a> {
+    /// An insertion, from behind its mark.
+    fn insertion<K: Kind>(&mut self) -> Result<Record<'a>, Fault>
+        ensures { Reads K.Kind.width self.old self.new (insertion_at K.Kind.width K.Kind.unpacked self.old.input.now self.old.at) result }
+    {
+        let placement = self.placement()?;
+        let offset = self.at;
+        let element = self.element::<K>()?;
+        Ok(Record::Insertion {
             id: placement.stamp.id,
             clock: placement.stamp.clock,
             parent: placement.parent,
             side: placement.side,
             offset,
             element,
-        },
-        offset + K::bytes(),
-    ))
-}
+        })
+    }
 
-/// A deletion, likewise.
-fn deletion_at<K: Kind>(input: &[u8], at: usize) -> Result<(Record<'_>, usize), Fault>
-    ensures { MatchResult result (λ x. (deletion_at input.now at ≡ Ok (raw x.0, x.1)) × Kept K.Kind.width x.0 × (at < x.1) × (x.1 ≤ length input.now)) (λ e. deletion_at input.now at ≡ Err e) }
-{
-    let removal = removal_at(input, at)?;
-    let end = at + head_len(&removal.stamp) + 3;
-    Ok((
-        Record::Deletion {
+    /// A deletion, likewise.
+    fn deletion<K: Kind>(&mut self) -> Result<Record<'a>, Fault>
+        ensures { Reads K.Kind.width self.old self.new (deletion_at self.old.input.now self.old.at) result }
+    {
+        let removal = self.removal()?;
+        Ok(Record::Deletion {
             id: removal.stamp.id,
             clock: removal.stamp.clock,
             target: removal.target,
-        },
-        end,
-    ))
-}
-
-/// How many elements the run that begins with the edit has.
-fn length_at(id: Id, input: &[u8], at: usize) -> Result<u8, Fault>
-    ensures value { result ≡ length_at id input.now at }
-    ensures bounds { IfOk result (λ m. (2 ≤ m) × (m ≤ 64) × (id.number + m ≤ 65536) × (at + 1 ≤ length input.now)) }
-{
-    let len = byte_at(input, at)?;
-    if len < 2 || len > 64 {
-        return Err(Fault::RunLength(at));
+        })
     }
-    if id.number as usize + len as usize > 65536 {
-        return Err(Fault::Numbering(at));
-    }
-    Ok(len)
-}
 
-/// A run, likewise.
-fn run_at<K: Kind>(input: &[u8], at: usize) -> Result<(Record<'_>, usize), Fault>
-    ensures { MatchResult result (λ x. (run_at K.Kind.width K.Kind.unpacked input.now at ≡ Ok (raw x.0, x.1)) × Kept K.Kind.width x.0 × (at < x.1) × (x.1 ≤ length input.now)) (λ e. run_at K.Kind.width K.Kind.unpacked input.now at ≡ Err e) }
-{
-    let placement = placement_at(input, at)?;
-    let place = at + head_len(&placement.stamp) + 4;
-    let len = length_at(placement.stamp.id, input, place)?;
-    let offset = place + 1;
-    let elements = elements_at::<K>(input, offset, len)?;
-    Ok((
-        Record::Run {
+    /// How many elements the run that begins with the edit has.
+    fn run_length(&mut self, id: Id) -> Result<u8, Fault>
+        ensures value { result ≡ length_at id self.old.input.now self.old.at }
+        ensures bounds { IfOk result (λ m. (2 ≤ m) × (m ≤ 64) × (id.number + m ≤ 65536) × MovesTo self.old self.new (self.old.at + 1)) }
+    {
+        let place = self.at;
+        let len = self.byte()?;
+        if !(2..=64).contains(&len) {
+            return Err(Fault::RunLength(place));
+        }
+        if u32::from(id.number) + u32::from(len) > 65536 {
+            return Err(Fault::Numbering(place));
+        }
+        Ok(len)
+    }
+
+    /// A run, likewise.
+    fn run<K: Kind>(&mut self) -> Result<Record<'a>, Fault>
+        ensures { Reads K.Kind.width self.old self.new (run_at K.Kind.width K.Kind.unpacked self.old.input.now self.old.at) result }
+    {
+        let placement = self.placement()?;
+        let len = self.run_length(placement.stamp.id)?;
+        let offset = self.at;
+        let elements = self.elements::<K>(len)?;
+        Ok(Record::Run {
             id: placement.stamp.id,
             clock: placement.stamp.clock,
             parent: placement.parent,
@@ -83,26 +75,24 @@ fn run_at<K: Kind>(input: &[u8], at: usize) -> Result<(Record<'_>, usize), Fault
             len,
             offset,
             elements,
-        },
-        offset + elements.len(),
-    ))
-}
+        })
+    }
 
-/// The record with the mark, whose fields begin at the offset, and the offset behind it.
-fn fields_at<K: Kind>(
-    format: Format,
-    bytes: [u8; 2],
-    input: &[u8],
-    mark: usize,
-    at: usize,
-) -> Result<(Record<'_>, usize), Fault>
-    ensures { MatchResult result (λ x. (fields_at K.Kind.width K.Kind.unpacked format (slice_index bytes 0) (slice_index bytes 1) mark input.now at ≡ Ok (raw x.0, x.1)) × Kept K.Kind.width x.0 × (at < x.1) × (x.1 ≤ length input.now)) (λ e. fields_at K.Kind.width K.Kind.unpacked format (slice_index bytes 0) (slice_index bytes 1) mark input.now at ≡ Err e) }
-{
-    match &bytes {
-        INSERTION => insertion_at::<K>(input, at),
-        DELETION => deletion_at::<K>(input, at),
-        RUN if format.has_runs() => run_at::<K>(input, at),
-        _ => Err(Fault::Mark(mark)),
+    /// The record with the mark, which stands at the offset `mark`, from behind it.
+    fn fields<K: Kind>(
+        &mut self,
+        format: Format,
+        bytes: [u8; 2],
+        mark: usize,
+    ) -> Result<Record<'a>, Fault>
+        ensures { Reads K.Kind.width self.old self.new (fields_at K.Kind.width K.Kind.unpacked format (slice_index bytes 0) (slice_index bytes 1) mark self.old.input.now self.old.at) result }
+    {
+        match &bytes {
+            INSERTION => self.insertion::<K>(),
+            DELETION => self.deletion::<K>(),
+            RUN if format.has_runs() => self.run::<K>(),
+            _ => Err(Fault::Mark(mark)),
+        }
     }
 }
 
@@ -117,13 +107,13 @@ pub fn read_record<'a, K: Kind>(
     let mark = *at;
     let mut guard = Guard {
         at,
-        mark,
-        accepted: false,
+        back_to: Some(mark),
     };
-    let bytes = [byte_at(input, *guard.at)?, byte_at(input, *guard.at + 1)?];
-    *guard.at += 2;
-    let (record, end) = fields_at::<K>(format, bytes, input, mark, *guard.at)?;
-    *guard.at = end;
-    guard.accepted = true;
+    let mut reader = Reader::new(input, mark)?;
+    let bytes = [reader.byte()?, reader.byte()?];
+    *guard.at = reader.at;
+    let record = reader.fields::<K>(format, bytes, mark)?;
+    *guard.at = reader.at;
+    guard.back_to = None;
     Ok(record)
 }
