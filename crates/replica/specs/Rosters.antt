@@ -1,17 +1,17 @@
 -- The editors of a replica, in ascending order, each with the number of its applied edits.
-use Rattle.std.specs.Prelude.{ℕ, Bool, cond, List, ◌∷◌, ◌++◌, map, take, drop, ◌==◌, nat_eq, nat_le}
+use Rattle.std.specs.Prelude.{ℕ, Bool, cond, List, ◌∷◌, ◌++◌, map, take, drop, ◌==◌, nat_le}
+use Rattle.std.specs.List.{list_any, list_all}
 use Rattle.edits.specs.declared.id.Id.{Id}
 use Rattle.edits.specs.declared.clock.Pair.{Pair}
 use Rattle.edits.specs.Pairs.{count_of, place_of}
-use Rattle.replica.specs.Lists.{any, every}
 
 -- whether an editor is listed
 abbrev pub lists : List Pair → ℕ → Bool
-lists roster editor = any (λ p. nat_eq p.editor editor) roster
+lists roster editor = list_any (λ p. p.editor == editor) roster
 
 -- whether everything that the pairs of a clock count was applied
 abbrev pub includes : List Pair → List Pair → Bool
-includes roster clock = every (λ p. nat_le p.count (count_of roster p.editor)) clock
+includes roster clock = list_all (λ p. nat_le p.count (count_of roster p.editor)) clock
 
 -- an editor put in its place, with no edit applied, unless it is listed
 abbrev pub admitted : ℕ → List Pair → List Pair

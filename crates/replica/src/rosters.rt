@@ -3,7 +3,7 @@ ghost use Rattle.std.specs.Prelude.{◌≡◌, ◌<◌, false, [], vec_len, Matc
 ghost use Rattle.edits.specs.declared.fault.Fault.TheVariants.{NoMemory};
 ghost use Rattle.edits.specs.Pairs.{count_of};
 ghost use Rattle.edits.specs.Clocks.{pairs_of};
-ghost use Rattle.replica.specs.Rosters.{lists, includes, admitted, count_up, advanced};
+ghost use Rattle.replica.specs.Rosters.{lists, includes, admitted, advanced};
 
 use crate::roster::{MOST_EDITORS, Roster};
 use edits::{Clock, Fault, Id, Pair, count_among, place_among};
@@ -44,14 +44,17 @@ impl Roster {
     pub(crate) fn includes(&self, clock: &Clock) -> bool
         ensures { result ≡ includes self.now.pairs.items (pairs_of clock.now) }
     {
-        includes_all(self.pairs(), clock.listed())
+        clock
+            .listed()
+            .iter()
+            .all(|pair| pair.count <= self.count(pair.editor))
     }
 
     /// Whether the editor is listed.
     pub(crate) fn lists(&self, editor: u8) -> bool
         ensures { result ≡ lists self.now.pairs.items editor }
     {
-        lists_editor(self.pairs(), editor)
+        self.pairs.iter().any(|pair| pair.editor == editor)
     }
 
     /// Whether no further editor can be listed.
@@ -79,44 +82,9 @@ impl Roster {
         ensures { self.new.pairs.items ≡ advanced id self.old.pairs.items }
     {
         for pair in self.pairs.iter_mut() {
-            *pair = counted_up(id, *pair);
+            if pair.editor == id.editor {
+                pair.count = id.number;
+            }
         }
     }
-}
-
-/// The pair, which counts the edit if it is of its editor.
-fn counted_up(id: Id, pair: Pair) -> Pair
-    ensures { result ≡ count_up id pair }
-{
-    if pair.editor == id.editor {
-        Pair {
-            editor: pair.editor,
-            count: id.number,
-        }
-    } else {
-        pair
-    }
-}
-
-/// Whether each of the pairs counts no more than the roster does.
-fn includes_all(roster: &[Pair], pairs: &[Pair]) -> bool
-    ensures { result ≡ includes roster.now pairs.now }
-{
-    for pair in pairs {
-        if pair.count > count_among(roster, pair.editor) {
-            return false;
-        }
-    }
-    true
-}
-
-fn lists_editor(pairs: &[Pair], editor: u8) -> bool
-    ensures { result ≡ lists pairs.now editor }
-{
-    for pair in pairs {
-        if pair.editor == editor {
-            return true;
-        }
-    }
-    false
 }
