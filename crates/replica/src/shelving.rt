@@ -1,21 +1,18 @@
 //! Edits put on the shelf and taken off it.
-ghost use Rattle.std.specs.Prelude.{◌≡◌, ◌+◌, ◌<◌, ◌≤◌, true, ◌&&◌, [], ◌∷◌, ◌++◌, IfSome, IfNone, if◌then◌else◌, Some, None, vec_len, MatchResult, OnSome, nat_le, slice_get, remove};
-ghost use Rattle.edits.specs.declared.fault.Fault.TheVariants.{OutsideLimits, NoMemory};
-ghost use Rattle.replica.specs.Shelves.{room_allowed, waits, insertions, first_ready, lowest_from};
+ghost use Rattle.std.specs.Prelude.{◌≡◌, ◌+◌, ◌<◌, [], ◌∷◌, ◌++◌, IfSome, IfNone, Some, None, vec_len, MatchResult, OnSome, nat_le, slice_get, remove};
+ghost use Rattle.edits.specs.declared.fault.Fault.TheVariants.{NoMemory};
+ghost use Rattle.replica.specs.Shelves.{waits, insertions, first_ready, lowest_from};
 
 use crate::roster::Roster;
-use crate::shelf::{MOST_WAITING, Shelf};
+use crate::shelf::Shelf;
 use edits::{Edit, Fault, Id};
 use std::alloc::Global;
 
 impl<E: Copy> Shelf<E> {
     /// An empty shelf with memory for as many edits as asked for.
     pub(crate) fn new(heap: Global, room: usize) -> Result<Shelf<E>, Fault>
-        ensures { MatchResult result (λ x. (x.room ≡ room) × (x.edits.items ≡ []) × (room_allowed room ≡ true)) (λ f. f ≡ (if room_allowed room then NoMemory else OutsideLimits)) }
+        ensures { MatchResult result (λ x. (x.room ≡ room) × (x.edits.items ≡ [])) (λ f. f ≡ NoMemory) }
     {
-        if room < 1 || room > MOST_WAITING {
-            return Err(Fault::OutsideLimits);
-        }
         Ok(Shelf {
             room,
             edits: Vec::with_capacity(heap, room)?,

@@ -13,7 +13,7 @@ use crate::shelf::{MOST_WAITING, Shelf};
 use crate::verdict::Verdict;
 use edits::{Edit, Fault, Id};
 use std::alloc::Global;
-use tree::{MOST_SLOTS, Tree};
+use tree::Tree;
 
 impl<E: Copy> Replica<E> {
     /// An empty replica without an editor, with memory for as many entries (1 to 65,536) and as many waiting edits (1 to
@@ -21,7 +21,8 @@ impl<E: Copy> Replica<E> {
     pub fn new(heap: Global, slots: usize, room: usize) -> Result<Replica<E>, Fault>
         ensures { MatchResult result (λ x. (x.tree.slots ≡ slots) × (x.shelf.room ≡ room) × (entries_in x ≡ 0) × (shelf_of x ≡ []) × (roster_of x ≡ []) × ((slots_allowed slots && room_allowed room) ≡ true)) (λ f. f ≡ (if slots_allowed slots && room_allowed room then NoMemory else OutsideLimits)) }
     {
-        if slots < 1 || slots > MOST_SLOTS || room < 1 || room > MOST_WAITING {
+        // Before any memory is asked for; the tree tests the slots first thing.
+        if !(1..=MOST_WAITING).contains(&room) {
             return Err(Fault::OutsideLimits);
         }
         Ok(Replica {

@@ -1,7 +1,6 @@
-use Rattle.std.proofs.Common.{◌≡◌, ℕ, ◌+◌, Bool, cond, List, ◌++◌, map, take, drop, get_or, set, sym, ap, ◌∙◌, eq-eqb, ne_eqb, arith, rules}
+use Rattle.std.proofs.Common.{◌≡◌, get_or, set, arith, rules}
 use Rattle.std.proofs.lemmas.List.Edits.{map_over_more}
 use Rattle.std.proofs.lemmas.List.{take_all, drop_all}
-use Rattle.edits.specs.declared.clock.Pair.{Pair}
 use Rattle.edits.proofs.Counting.{no_pair}
 use Rattle.replica.specs.Rosters.{count_up}
 use Rattle.replica.proofs.roster.Roster.advance.Goals.{then-pair-id, else-pair-id}
