@@ -3,10 +3,10 @@ ghost use Rattle.std.specs.Prelude.{◌≡◌, ◌<◌, false, [], vec_len, Matc
 ghost use Rattle.edits.specs.declared.fault.Fault.TheVariants.{NoMemory};
 ghost use Rattle.edits.specs.Pairs.{count_of};
 ghost use Rattle.edits.specs.Clocks.{pairs_of};
-ghost use Rattle.replica.specs.Rosters.{lists, includes, admitted, advanced};
+ghost use Rattle.replica.specs.Rosters.{lists, includes, admitted, advanced, Placed};
 
 use crate::roster::{MOST_EDITORS, Roster};
-use edits::{Clock, Fault, Id, Pair, count_among, place_among};
+use edits::{Clock, Fault, Id, Pair, count_among};
 use std::alloc::Global;
 
 impl Roster {
@@ -50,11 +50,18 @@ impl Roster {
             .all(|pair| pair.count <= self.count(pair.editor))
     }
 
+    /// Where the editor is listed, or the place that it would have.
+    fn place(&self, editor: u8) -> Result<usize, usize>
+        ensures { Placed editor self.now.pairs.items result }
+    {
+        self.pairs.binary_search_by_key(&editor, |pair| pair.editor)
+    }
+
     /// Whether the editor is listed.
     pub(crate) fn lists(&self, editor: u8) -> bool
         ensures { result ≡ lists self.now.pairs.items editor }
     {
-        self.pairs.iter().any(|pair| pair.editor == editor)
+        self.place(editor).is_ok()
     }
 
     /// Whether no further editor can be listed.
@@ -69,11 +76,9 @@ impl Roster {
         requires { lists self.old.pairs.items editor ≡ false → vec_len self.old.pairs < 16 }
         ensures { self.new.pairs.items ≡ admitted editor self.old.pairs.items }
     {
-        if !self.lists(editor) {
-            let place = place_among(self.pairs(), editor);
-            let pair = Pair { editor, count: 0 };
+        if let Err(place) = self.place(editor) {
             // Never refused: there is memory for every editor.
-            let _ = self.pairs.insert(place, pair);
+            let _ = self.pairs.insert(place, Pair { editor, count: 0 });
         }
     }
 
