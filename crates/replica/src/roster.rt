@@ -1,6 +1,6 @@
 //! The editors that a replica has accepted edits of, as data.
 ghost use Rattle.std.specs.Prelude.{◌≤◌, vec_len, vec_capacity};
-ghost use Rattle.std.specs.List.Sorted.{IsNonDecreasingBy};
+ghost use Rattle.replica.specs.Rosters.{Ascends};
 
 use edits::Pair;
 
@@ -14,5 +14,5 @@ pub struct Roster {
     pub(crate) pairs: Vec<Pair>,
     ghost reserved: { 16 ≤ vec_capacity pairs },
     ghost few: { vec_len pairs ≤ 16 },
-    ghost ordered: { IsNonDecreasingBy (λ p. p.editor) pairs.items },
+    ghost ascending: { Ascends pairs.items },
 }

@@ -3,9 +3,8 @@ use Rattle.std.proofs.lemmas.List.Edits.{map_over_more}
 use Rattle.std.proofs.lemmas.List.{take_all, drop_all}
 use Rattle.edits.proofs.Counting.{no_pair}
 use Rattle.std.specs.Vec.{with_items}
-use Rattle.std.specs.List.Sorted.{IsNonDecreasingBy}
-use Rattle.replica.specs.Rosters.{count_up, advanced}
-use Rattle.replica.proofs.Places.{ordered_advanced}
+use Rattle.replica.specs.Rosters.{Ascends, count_up, advanced}
+use Rattle.replica.proofs.Places.{ascends_advanced}
 use Rattle.replica.proofs.roster.Roster.advance.Goals.{then-pair-id, else-pair-id}
 use Rattle.replica.proofs.roster.Roster.advance.Goals as goal
 
@@ -21,7 +20,7 @@ loop-pair-preserved c =
 pub returns : goal.returns
 returns c = search (rules, take_all, drop_all)
 
-pub invariant_of-self-clause-ordered : goal.invariant_of-self-clause-ordered
-invariant_of-self-clause-ordered c =
+pub invariant_of-self-clause-ascending : goal.invariant_of-self-clause-ascending
+invariant_of-self-clause-ascending c =
     let written : (with_items c.args.self.now.pairs c.loop-pair.pair-items).items ≡ advanced c.args.id c.args.self.now.pairs.items = search (rules, take_all, drop_all) in
-    subst (IsNonDecreasingBy (λ p. p.editor)) (sym written) (ordered_advanced c.args.id c.args.self.now.pairs.items c.args.self.now.ordered)
+    subst Ascends (sym written) (ascends_advanced c.args.id c.args.self.now.pairs.items c.args.self.now.ascending)

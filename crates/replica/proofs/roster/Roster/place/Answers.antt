@@ -13,4 +13,4 @@ returns c =
     let says : List Pair → Type 0 = λ ps. IsSearchInRange place (length ps) × IsBinarySearchResult (λ p. nat_cmp p.editor editor) ps place in
     let searched = c.binary_search_by_key.ensures.position (λ p. p.editor) (answers_always _ _ _ (λ f a r q k. search rules)) in
     let at = subst says c.deref.ensures.value (c.binary_search_by_key.ensures.bound, searched) in
-    found editor c.args.self.now.pairs.items place at.0 at.1 c.args.self.now.ordered
+    found editor c.args.self.now.pairs.items place at.0 at.1 c.args.self.now.ascending
