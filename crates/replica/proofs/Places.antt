@@ -1,14 +1,12 @@
 -- The place of an editor among pairs that ascend, as the binary search finds it.
-use Rattle.std.proofs.Common.{◌≡◌, ℕ, zero, suc, ◌+◌, ◌-◌, ◌∙◌, inl, inr, subst, ◌<◌, ◌≤◌, false, List, [], ◌∷◌, ◌==◌, Result, Ok, Err, length, get_or, refl, ap, arith}
-use Rattle.std.proofs.lemmas.Bool.{cases_lt}
+use Rattle.std.proofs.Common.{◌≡◌, ℕ, zero, suc, ◌∙◌, Bool, cond, set, sym, eq-eqb, inl, inr, subst, ◌<◌, ◌≤◌, false, List, [], ◌∷◌, ◌==◌, Result, Ok, Err, length, get_or, refl, ap, arith}
+use Rattle.std.proofs.lemmas.Bool.{cases_lt, or_parts}
 use Rattle.std.proofs.lemmas.Bool.Decides.{nat_tests}
-use Rattle.std.proofs.lemmas.List.{get_or-map, length-map}
 use Rattle.std.proofs.lemmas.List.Folds.{list_any_at}
 use Rattle.std.specs.Ordering.{nat_cmp, ordering_index}
 use Rattle.std.specs.declared.cmp.Ordering.TheVariants.{Less, Equal, Greater}
 use Rattle.std.specs.List.Sorted.{IsBinarySearchResult, IsSearchInRange}
-use Rattle.std.specs.List.{AllWithin, HoldsAt, insert}
-use Rattle.std.proofs.lemmas.List.Edits.{get_or-insert_at, get_or-insert_below, get_or-insert_above, length-insert}
+use Rattle.std.specs.List.{AllWithin, HoldsAt}
 use Rattle.edits.specs.declared.id.Id.{Id}
 use Rattle.edits.specs.declared.clock.Pair.{Pair}
 use Rattle.edits.specs.Pairs.{place_of}
@@ -58,41 +56,30 @@ found e ps (Err i) within at up =
     same_place : (k j : ℕ) (d : Pair) → k ≡ j → (get_or ps k d).editor ≤ (get_or ps j d).editor
     same_place k j d e = subst (λ (n : ℕ). (get_or ps k d).editor ≤ (get_or ps n d).editor) e (omega arith)
 
--- a pair put between the lower and the higher ones
-module _ (ps : List Pair) (i : ℕ) (y : Pair) (within : i ≤ length ps) where
-  low : (d : Pair) (k : ℕ) → k < i → (get_or (insert ps i y) k d).editor ≡ (get_or ps k d).editor
-  low d k lt = ap (λ (p : Pair). p.editor) (get_or-insert_below ps i y d k lt within)
+-- an edit of an editor that is not listed counts nowhere
+pub advanced_none : (id : Id) (ps : List Pair) → lists ps id.editor ≡ false → ps ≡ advanced id ps
+advanced_none id [] none = refl
+advanced_none id (p ∷ ps) none =
+    let parts = or_parts _ _ none in
+    ap (λ (v : Bool). cond v (record { editor = p.editor; count = id.number }) p ∷ ps) (sym parts.0) ∙ ap (λ (qs : List Pair). count_up id p ∷ qs) (advanced_none id ps parts.1)
 
-  mid : (d : Pair) (k : ℕ) → k ≡ i → (get_or (insert ps i y) k d).editor ≡ y.editor
-  mid d k e = ap (λ (n : ℕ). (get_or (insert ps i y) n d).editor) e ∙ ap (λ (p : Pair). p.editor) (get_or-insert_at ps i y d within)
+-- an edit of a listed editor counts at its place
+counted_at : (id : Id) (ps : List Pair) (i : ℕ) → i < length ps → ((k : ℕ) → k < i → (get_or ps k no_pair).editor < id.editor)
+    → ((k : ℕ) → i < k → k < length ps → id.editor < (get_or ps k no_pair).editor) → (get_or ps i no_pair).editor ≡ id.editor
+    → set ps i (record { editor = (get_or ps i no_pair).editor; count = id.number }) ≡ advanced id ps
+counted_at id [] i within below above is = absurd (omega (arith, within))
+counted_at id (p ∷ ps) zero within below above is =
+    let none = (between id.editor ps 0 (omega arith) (λ k lt. absurd (omega (arith, lt))) (λ k le lt. above (suc k) (omega arith) (omega (arith, lt)))).0 in
+    ap (λ (v : Bool). cond v (record { editor = p.editor; count = id.number }) p ∷ ps) (sym (eq-eqb _ _ is)) ∙ ap (λ (qs : List Pair). count_up id p ∷ qs) (advanced_none id ps none)
+counted_at id (p ∷ ps) (suc i) within below above is =
+    let here : p.editor < id.editor = below 0 (omega arith) in
+    let rest = counted_at id ps i (omega (arith, within)) (λ k lt. below (suc k) (omega (arith, lt))) (λ k lt far. above (suc k) (omega (arith, lt)) (omega (arith, far))) is in
+    let other : (p.editor == id.editor) ≡ false = grind (arith, nat_tests, here) in
+    ap (λ (v : Bool). cond v (record { editor = p.editor; count = id.number }) p ∷ set ps i (record { editor = (get_or ps i no_pair).editor; count = id.number })) (sym other)
+    ∙ ap (λ (qs : List Pair). count_up id p ∷ qs) rest
 
-  high : (d : Pair) (k j : ℕ) → k ≡ j + 1 → i ≤ j → (get_or (insert ps i y) k d).editor ≡ (get_or ps j d).editor
-  high d k j e le = ap (λ (n : ℕ). (get_or (insert ps i y) n d).editor) e ∙ ap (λ (p : Pair). p.editor) (get_or-insert_above ps i y d j le within)
-
-  pub ascends_insert : Ascends ps → AllWithin (λ p. p.editor < y.editor) ps 0 i → AllWithin (λ p. y.editor < p.editor) ps i (length ps) → Ascends (insert ps i y)
-  ascends_insert up below above = λ j k d lt far.
-      let long = length-insert ps i y within in
-      elim (cases_lt j i) [
-        | inl ji ↦ elim (cases_lt k i) [
-          | inl ki ↦ omega (arith, low d j ji, low d k ki, up j k d lt (omega (arith, ki, within)))
-          | inr ik ↦ elim (cases_lt i k) [
-            | inl more ↦ omega (arith, low d j ji, high d k (k - 1) (omega (arith, more)) (omega (arith, more)), up j (k - 1) d (omega (arith, ji, more)) (omega (arith, long, far, more)))
-            | inr less ↦ omega (arith, low d j ji, mid d k (omega (arith, ik, less)), below j d (omega arith) ji)
-          ]
-        ]
-        | inr ij ↦ elim (cases_lt i j) [
-          | inl more ↦ omega (arith, high d j (j - 1) (omega (arith, more)) (omega (arith, more)), high d k (k - 1) (omega (arith, more, lt)) (omega (arith, more, lt)), up (j - 1) (k - 1) d (omega (arith, more, lt)) (omega (arith, long, far, more, lt)))
-          | inr less ↦ omega (arith, mid d j (omega (arith, ij, less)), high d k (k - 1) (omega (arith, less, ij, lt)) (omega (arith, less, ij, lt)), above (k - 1) d (omega (arith, less, ij, lt)) (omega (arith, long, far, lt)))
-        ]
-      ]
-
--- an edit counted moves no editor
-pub ascends_advanced : (id : Id) (ps : List Pair) → Ascends ps → Ascends (advanced id ps)
-ascends_advanced id ps up = λ i j d lt far.
-    let long : length (advanced id ps) ≡ length ps = length-map ps (count_up id) in
-    let lower = get_or-map (count_up id) ps i d d (omega (arith, long, lt, far)) in
-    let upper = get_or-map (count_up id) ps j d d (omega (arith, long, far)) in
-    grind (arith, ap (λ (p : Pair). p.editor) lower, ap (λ (p : Pair). p.editor) upper, same_editor id (get_or ps i d), same_editor id (get_or ps j d), up i j d lt (omega (arith, long, far)))
-  where
-    same_editor : (id : Id) (p : Pair) → (count_up id p).editor ≡ p.editor
-    same_editor id p = grind (arith, nat_tests)
+pub advanced_at : (id : Id) (ps : List Pair) (i : ℕ) (editor : ℕ) → Ascends ps → i < length ps → HoldsAt (λ p. p.editor ≡ id.editor) ps i → editor ≡ id.editor
+    → set ps i (record { editor = editor; count = id.number }) ≡ advanced id ps
+advanced_at id ps i editor up within is same =
+    ap (λ (n : ℕ). set ps i (record { editor = n; count = id.number })) (same ∙ sym (is no_pair))
+    ∙ counted_at id ps i within (λ k lt. omega (arith, up k i no_pair lt within, is no_pair)) (λ k lt far. omega (arith, up i k no_pair lt far, is no_pair)) (is no_pair)

@@ -50,7 +50,7 @@ impl Roster {
             .all(|pair| pair.count <= self.count(pair.editor))
     }
 
-    /// Where the editor is listed, or the place that it would have.
+    /// The place at which the editor is listed, or the one that it would have.
     fn place(&self, editor: u8) -> Result<usize, usize>
         ensures { Placed editor self.now.pairs.items result }
     {
@@ -86,10 +86,8 @@ impl Roster {
     pub(crate) fn advance(&mut self, id: Id)
         ensures { self.new.pairs.items ≡ advanced id self.old.pairs.items }
     {
-        for pair in self.pairs.iter_mut() {
-            if pair.editor == id.editor {
-                pair.count = id.number;
-            }
+        if let Ok(place) = self.place(id.editor) {
+            self.pairs[place].count = id.number;
         }
     }
 }

@@ -21,7 +21,7 @@ impl<E: Copy> Replica<E> {
     pub fn new(heap: Global, slots: usize, room: usize) -> Result<Replica<E>, Fault>
         ensures { MatchResult result (λ x. (x.tree.slots ≡ slots) × (x.shelf.room ≡ room) × (entries_in x ≡ 0) × (shelf_of x ≡ []) × (roster_of x ≡ []) × ((slots_allowed slots && room_allowed room) ≡ true)) (λ f. f ≡ (if slots_allowed slots && room_allowed room then NoMemory else OutsideLimits)) }
     {
-        // Before any memory is asked for; the tree tests the slots first thing.
+        // Tested before any memory is asked for; the slots are, too, by the tree.
         if !(1..=MOST_WAITING).contains(&room) {
             return Err(Fault::OutsideLimits);
         }
@@ -34,6 +34,7 @@ impl<E: Copy> Replica<E> {
 
     /// Takes an edit in. It is tested in turn whether it is known, whether its editor finds a place, whether an
     /// insertion finds a slot, and, unless it is ready, whether it finds a place on the shelf.
+    // That the slots stay is said here, of `apply` and of `release`: it relates two states, which no type can do.
     pub fn take_in(&mut self, edit: &Edit<E>) -> Result<Taken, Fault>
         ensures slots { self.new.tree.slots ≡ self.old.tree.slots }
         ensures answer { Answered edit.now self.old self.new result (verdict self.old edit.now) }
