@@ -13,6 +13,7 @@ use Rattle.edits.specs.Pairs.{place_of}
 use Rattle.edits.proofs.Counting.{no_pair}
 use Rattle.replica.specs.Rosters.{Ascends, lists, count_up, advanced, Placed}
 
+-- what a comparison of two numbers says of them
 less : (a e : ℕ) → nat_cmp a e ≡ Less → a < e
 less a e h = grind (arith, nat_tests, h)
 
@@ -22,6 +23,7 @@ greater a e h = grind (arith, nat_tests, h)
 same : (a e : ℕ) → nat_cmp a e ≡ Equal → a ≡ e
 same a e h = grind (arith, nat_tests, h)
 
+-- along numbers that do not fall the comparisons with one number do not fall
 rises : (a b e : ℕ) → a ≤ b → ordering_index (nat_cmp a e) ≤ ordering_index (nat_cmp b e)
 rises a b e le = grind (arith, nat_tests, le)
 

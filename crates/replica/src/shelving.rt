@@ -44,7 +44,6 @@ impl<E: Copy> Shelf<E> {
     pub(crate) fn put(&mut self, edit: Edit<E>)
         requires { vec_len self.old.edits < self.old.room }
         ensures items { self.new.edits.items ≡ self.old.edits.items ++ (edit ∷ []) }
-        ensures insertions { insertions self.new.edits.items ≡ insertions (edit ∷ self.old.edits.items) }
         ensures room { self.new.room ≡ self.old.room }
     {
         self.edits.push_reserved(edit);
@@ -52,8 +51,7 @@ impl<E: Copy> Shelf<E> {
 
     /// The place of the first edit that is ready.
     fn first_ready(&self, roster: &Roster) -> Option<usize>
-        ensures place { result ≡ first_ready roster.now.pairs.items self.now.edits.items }
-        ensures within { IfSome result (λ k. k < vec_len self.now.edits) }
+        ensures { result ≡ first_ready roster.now.pairs.items self.now.edits.items }
     {
         self.edits
             .iter()
