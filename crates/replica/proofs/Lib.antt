@@ -1,2 +1,2 @@
-pub mod Walks
-pub mod Waiting
+pub mod Lowest
+pub mod Places

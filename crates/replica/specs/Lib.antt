@@ -1,4 +1,3 @@
-pub mod Lists
 pub mod Rosters
 pub mod Shelves
 pub mod Taking

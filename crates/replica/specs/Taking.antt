@@ -1,5 +1,5 @@
 -- What becomes of an edit that is taken in.
-use Rattle.std.specs.Prelude.{◌≡◌, ℕ, ◌+◌, ◌<◌, ◌≤◌, Bool, cond, not, ◌&&◌, ◌||◌, List, [], ◌∷◌, ◌++◌, Ok, Err, vec_items, vec_len, Result, nat_le}
+use Rattle.std.specs.Prelude.{◌≡◌, ℕ, ◌+◌, ◌<◌, ◌≤◌, Bool, cond, not, ◌&&◌, ◌||◌, List, [], ◌∷◌, ◌++◌, None, Ok, Err, vec_items, vec_len, Result, nat_le}
 use Rattle.edits.specs.declared.clock.Pair.{Pair}
 use Rattle.edits.specs.declared.edit.Edit.{Edit}
 use Rattle.edits.specs.declared.fault.Fault.{Fault}
@@ -11,10 +11,9 @@ use Rattle.replica.specs.declared.replica.Replica.{Replica}
 use Rattle.replica.specs.declared.replica.Taken.{Taken}
 use Rattle.replica.specs.declared.replica.Taken.TheVariants.{Known, Applied}
 use Rattle.replica.specs.declared.verdict.Verdict.{Verdict}
-use Rattle.replica.specs.declared.verdict.Verdict.TheVariants.{Knows, Refuses, Applies, Shelves}
-use Rattle.replica.specs.Lists.{one_if}
+use Rattle.replica.specs.declared.verdict.Verdict.TheVariants.{Knows, Applies, Shelves}
 use Rattle.replica.specs.Rosters.{lists, admitted}
-use Rattle.replica.specs.Shelves.{waits, insertions, ready, before_ready}
+use Rattle.replica.specs.Shelves.{waits, insertions, ready, first_ready}
 
 -- the parts of a replica: the editors with their counts, the waiting edits, and the number of entries
 abbrev pub roster_of : {E : Type 0} → Replica E → List Pair
@@ -38,30 +37,30 @@ crowded r id = nat_le 16 (vec_len r.roster.pairs) && not (lists (roster_of r) id
 abbrev pub slotless : {E : Type 0} → Replica E → Edit E → Bool
 slotless r e = is_insertion e && nat_le r.tree.slots (entries_in r + insertions (shelf_of r))
 
--- the tests in turn
-abbrev pub verdict : {E : Type 0} → Replica E → Edit E → Verdict
+-- the tests in turn: what becomes of the edit, or which of them refuses it
+abbrev pub verdict : {E : Type 0} → Replica E → Edit E → Result Verdict Fault
 verdict r e =
-    cond (known r (stamp_of e).id) Knows
-    (cond (crowded r (stamp_of e).id) (Refuses (RosterFull (stamp_of e).id))
-    (cond (slotless r e) (Refuses (SlotsFull (stamp_of e).id))
-    (cond (ready (roster_of r) e) Applies
-    (cond (nat_le r.shelf.room (vec_len r.shelf.edits)) (Refuses (ShelfFull (stamp_of e).id)) Shelves))))
+    cond (known r (stamp_of e).id) (Ok Knows)
+    (cond (crowded r (stamp_of e).id) (Err (RosterFull (stamp_of e).id))
+    (cond (slotless r e) (Err (SlotsFull (stamp_of e).id))
+    (cond (ready (roster_of r) e) (Ok Applies)
+    (cond (nat_le r.shelf.room (vec_len r.shelf.edits)) (Err (ShelfFull (stamp_of e).id)) (Ok Shelves)))))
 
 -- what an accepted edit finds: a slot, if it is an insertion, and a place on the shelf, if it waits
-abbrev pub Fits : {E : Type 0} → Replica E → Edit E → Verdict → Type 0
-Fits r e Knows = Unit {0}
-Fits r e (Refuses f) = Unit {0}
-Fits r e Applies = entries_in r + (insertions (shelf_of r) + one_if (is_insertion e)) ≤ r.tree.slots
-Fits r e Shelves = (entries_in r + (insertions (shelf_of r) + one_if (is_insertion e)) ≤ r.tree.slots) × (vec_len r.shelf.edits < r.shelf.room)
+abbrev pub Fits : {E : Type 0} → Replica E → Edit E → Result Verdict Fault → Type 0
+Fits r e (Err f) = Unit {0}
+Fits r e (Ok Knows) = Unit {0}
+Fits r e (Ok Applies) = entries_in r + insertions (e ∷ shelf_of r) ≤ r.tree.slots
+Fits r e (Ok Shelves) = (entries_in r + insertions (e ∷ shelf_of r) ≤ r.tree.slots) × (vec_len r.shelf.edits < r.shelf.room)
 
 -- The answer, and the replica after it. A known or refused edit changes nothing. An edit that waits is put behind the
 -- others. An edit that is applied takes with it waiting edits, as many as the answer says besides, until none is ready.
-abbrev pub Answered : {E : Type 0} → Edit E → Replica E → Replica E → Result Taken Fault → Verdict → Type 0
-Answered e before after r Knows = (r ≡ Ok Known) × (after ≡ before)
-Answered e before after r (Refuses f) = (r ≡ Err f) × (after ≡ before)
-Answered e before after r Applies =
+abbrev pub Answered : {E : Type 0} → Edit E → Replica E → Replica E → Result Taken Fault → Result Verdict Fault → Type 0
+Answered e before after r (Err f) = (r ≡ Err f) × (after ≡ before)
+Answered e before after r (Ok Knows) = (r ≡ Ok Known) × (after ≡ before)
+Answered e before after r (Ok Applies) =
     (n : ℕ) × (r ≡ Ok (Applied (n + 1))) × (n + vec_len after.shelf.edits ≡ vec_len before.shelf.edits)
-    × (before_ready (roster_of after) (shelf_of after) ≡ vec_len after.shelf.edits)
-Answered e before after r Shelves =
+    × (first_ready (roster_of after) (shelf_of after) ≡ None)
+Answered e before after r (Ok Shelves) =
     (r ≡ Ok (Applied 0)) × (shelf_of after ≡ shelf_of before ++ (e ∷ [])) × (roster_of after ≡ admitted (stamp_of e).id.editor (roster_of before))
     × (after.tree ≡ before.tree)

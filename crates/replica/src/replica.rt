@@ -17,6 +17,7 @@ pub struct Replica<E: Copy> {
 }
 
 /// The answer to an edit that is taken in.
+// No `Option<usize>`: a `None` would not say what became of the edit.
 #[derive(Clone, Copy, PartialEq, Eq, Debug)]
 pub enum Taken {
     /// It was applied before, or waits already.

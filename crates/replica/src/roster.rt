@@ -1,5 +1,6 @@
 //! The editors that a replica has accepted edits of, as data.
 ghost use Rattle.std.specs.Prelude.{◌≤◌, vec_len, vec_capacity};
+ghost use Rattle.replica.specs.Rosters.{Ascends};
 
 use edits::Pair;
 
@@ -13,4 +14,5 @@ pub struct Roster {
     pub(crate) pairs: Vec<Pair>,
     ghost reserved: { 16 ≤ vec_capacity pairs },
     ghost few: { vec_len pairs ≤ 16 },
+    ghost ascending: { Ascends pairs.items },
 }

@@ -3,10 +3,10 @@ ghost use Rattle.std.specs.Prelude.{◌≡◌, ◌<◌, false, [], vec_len, Matc
 ghost use Rattle.edits.specs.declared.fault.Fault.TheVariants.{NoMemory};
 ghost use Rattle.edits.specs.Pairs.{count_of};
 ghost use Rattle.edits.specs.Clocks.{pairs_of};
-ghost use Rattle.replica.specs.Rosters.{lists, includes, admitted, count_up, advanced};
+ghost use Rattle.replica.specs.Rosters.{lists, includes, admitted, advanced, Placed};
 
 use crate::roster::{MOST_EDITORS, Roster};
-use edits::{Clock, Fault, Id, Pair, count_among, place_among};
+use edits::{Clock, Fault, Id, Pair, count_among};
 use std::alloc::Global;
 
 impl Roster {
@@ -44,14 +44,24 @@ impl Roster {
     pub(crate) fn includes(&self, clock: &Clock) -> bool
         ensures { result ≡ includes self.now.pairs.items (pairs_of clock.now) }
     {
-        includes_all(self.pairs(), clock.listed())
+        clock
+            .listed()
+            .iter()
+            .all(|pair| pair.count <= self.count(pair.editor))
+    }
+
+    /// The place at which the editor is listed, or the one that it would have.
+    fn place(&self, editor: u8) -> Result<usize, usize>
+        ensures { Placed editor self.now.pairs.items result }
+    {
+        self.pairs.binary_search_by_key(&editor, |pair| pair.editor)
     }
 
     /// Whether the editor is listed.
     pub(crate) fn lists(&self, editor: u8) -> bool
         ensures { result ≡ lists self.now.pairs.items editor }
     {
-        lists_editor(self.pairs(), editor)
+        self.place(editor).is_ok()
     }
 
     /// Whether no further editor can be listed.
@@ -66,11 +76,9 @@ impl Roster {
         requires { lists self.old.pairs.items editor ≡ false → vec_len self.old.pairs < 16 }
         ensures { self.new.pairs.items ≡ admitted editor self.old.pairs.items }
     {
-        if !self.lists(editor) {
-            let place = place_among(self.pairs(), editor);
-            let pair = Pair { editor, count: 0 };
+        if let Err(place) = self.place(editor) {
             // Never refused: there is memory for every editor.
-            let _ = self.pairs.insert(place, pair);
+            let _ = self.pairs.insert(place, Pair { editor, count: 0 });
         }
     }
 
@@ -78,45 +86,8 @@ impl Roster {
     pub(crate) fn advance(&mut self, id: Id)
         ensures { self.new.pairs.items ≡ advanced id self.old.pairs.items }
     {
-        for pair in self.pairs.iter_mut() {
-            *pair = counted_up(id, *pair);
+        if let Ok(place) = self.place(id.editor) {
+            self.pairs[place].count = id.number;
         }
     }
-}
-
-/// The pair, which counts the edit if it is of its editor.
-fn counted_up(id: Id, pair: Pair) -> Pair
-    ensures { result ≡ count_up id pair }
-{
-    if pair.editor == id.editor {
-        Pair {
-            editor: pair.editor,
-            count: id.number,
-        }
-    } else {
-        pair
-    }
-}
-
-/// Whether each of the pairs counts no more than the roster does.
-fn includes_all(roster: &[Pair], pairs: &[Pair]) -> bool
-    ensures { result ≡ includes roster.now pairs.now }
-{
-    for pair in pairs {
-        if pair.count > count_among(roster, pair.editor) {
-            return false;
-        }
-    }
-    true
-}
-
-fn lists_editor(pairs: &[Pair], editor: u8) -> bool
-    ensures { result ≡ lists pairs.now editor }
-{
-    for pair in pairs {
-        if pair.editor == editor {
-            return true;
-        }
-    }
-    false
 }

@@ -3,7 +3,7 @@ ghost use Rattle.std.specs.Prelude.{◌≤◌, vec_len, vec_capacity};
 
 use edits::Edit;
 
-/// The most edits that a shelf can be made for.
+/// The most waiting edits that a replica can be made for.
 pub const MOST_WAITING: usize = 64;
 
 /// Accepted edits that are not ready, in the order in which they came.

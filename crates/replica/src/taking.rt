@@ -1,11 +1,10 @@
 //! Edits taken in.
-ghost use Rattle.std.specs.Prelude.{◌≡◌, ◌+◌, ◌<◌, ◌≤◌, true, ◌&&◌, [], if◌then◌else◌, vec_len, MatchBool, MatchResult};
+ghost use Rattle.std.specs.Prelude.{◌≡◌, ◌+◌, ◌<◌, ◌≤◌, true, ◌&&◌, [], ◌∷◌, None, if◌then◌else◌, vec_len, MatchResult};
 ghost use Rattle.edits.specs.declared.fault.Fault.TheVariants.{NoMemory, OutsideLimits};
-ghost use Rattle.edits.specs.Edits.{stamp_of, is_insertion};
+ghost use Rattle.edits.specs.Edits.{stamp_of};
 ghost use Rattle.tree.specs.Entries.{slots_allowed};
-ghost use Rattle.replica.specs.Lists.{one_if};
 ghost use Rattle.replica.specs.Rosters.{advanced};
-ghost use Rattle.replica.specs.Shelves.{room_allowed, insertions, before_ready};
+ghost use Rattle.replica.specs.Shelves.{room_allowed, insertions, first_ready};
 ghost use Rattle.replica.specs.Taking.{roster_of, shelf_of, entries_in, known, crowded, slotless, verdict, Fits, Answered};
 
 use crate::replica::{Replica, Taken};
@@ -14,7 +13,7 @@ use crate::shelf::{MOST_WAITING, Shelf};
 use crate::verdict::Verdict;
 use edits::{Edit, Fault, Id};
 use std::alloc::Global;
-use tree::{MOST_SLOTS, Tree};
+use tree::Tree;
 
 impl<E: Copy> Replica<E> {
     /// An empty replica without an editor, with memory for as many entries (1 to 65,536) and as many waiting edits (1 to
@@ -22,7 +21,8 @@ impl<E: Copy> Replica<E> {
     pub fn new(heap: Global, slots: usize, room: usize) -> Result<Replica<E>, Fault>
         ensures { MatchResult result (λ x. (x.tree.slots ≡ slots) × (x.shelf.room ≡ room) × (entries_in x ≡ 0) × (shelf_of x ≡ []) × (roster_of x ≡ []) × ((slots_allowed slots && room_allowed room) ≡ true)) (λ f. f ≡ (if slots_allowed slots && room_allowed room then NoMemory else OutsideLimits)) }
     {
-        if slots < 1 || slots > MOST_SLOTS || room < 1 || room > MOST_WAITING {
+        // Tested before any memory is asked for; the slots are, too, by the tree.
+        if !(1..=MOST_WAITING).contains(&room) {
             return Err(Fault::OutsideLimits);
         }
         Ok(Replica {
@@ -34,13 +34,13 @@ impl<E: Copy> Replica<E> {
 
     /// Takes an edit in. It is tested in turn whether it is known, whether its editor finds a place, whether an
     /// insertion finds a slot, and, unless it is ready, whether it finds a place on the shelf.
+    // That the slots stay is said here, of `apply` and of `release`: it relates two states, which no type can do.
     pub fn take_in(&mut self, edit: &Edit<E>) -> Result<Taken, Fault>
         ensures slots { self.new.tree.slots ≡ self.old.tree.slots }
         ensures answer { Answered edit.now self.old self.new result (verdict self.old edit.now) }
     {
-        match self.judge(edit) {
+        match self.judge(edit)? {
             Verdict::Knows => Ok(Taken::Known),
-            Verdict::Refuses(fault) => Err(fault),
             Verdict::Applies => {
                 self.roster.admit(edit.stamp().id.editor);
                 self.apply(edit);
@@ -54,24 +54,24 @@ impl<E: Copy> Replica<E> {
         }
     }
 
-    /// What becomes of the edit.
-    fn judge(&self, edit: &Edit<E>) -> Verdict
+    /// What becomes of the edit, or the test that refuses it.
+    fn judge(&self, edit: &Edit<E>) -> Result<Verdict, Fault>
         ensures value { result ≡ verdict self.now edit.now }
         ensures fits { Fits self.now edit.now result }
     {
         let id = edit.stamp().id;
         if self.knows(id) {
-            Verdict::Knows
+            Ok(Verdict::Knows)
         } else if self.is_crowded(id) {
-            Verdict::Refuses(Fault::RosterFull(id))
+            Err(Fault::RosterFull(id))
         } else if self.is_slotless(edit) {
-            Verdict::Refuses(Fault::SlotsFull(id))
+            Err(Fault::SlotsFull(id))
         } else if self.roster.includes(&edit.stamp().clock) {
-            Verdict::Applies
+            Ok(Verdict::Applies)
         } else if self.shelf.is_full() {
-            Verdict::Refuses(Fault::ShelfFull(id))
+            Err(Fault::ShelfFull(id))
         } else {
-            Verdict::Shelves
+            Ok(Verdict::Shelves)
         }
     }
 
@@ -98,7 +98,7 @@ impl<E: Copy> Replica<E> {
 
     /// Applies an edit. One whose parent or target is no entry only counts.
     fn apply(&mut self, edit: &Edit<E>)
-        requires { entries_in self.old + (insertions (shelf_of self.old) + one_if (is_insertion edit.now)) ≤ self.old.tree.slots }
+        requires { entries_in self.old + insertions (edit.now ∷ shelf_of self.old) ≤ self.old.tree.slots }
         ensures slots { self.new.tree.slots ≡ self.old.tree.slots }
         ensures shelf { self.new.shelf ≡ self.old.shelf }
         ensures roster { roster_of self.new ≡ advanced (stamp_of edit.now).id (roster_of self.old) }
@@ -120,28 +120,15 @@ impl<E: Copy> Replica<E> {
         self.roster.advance(edit.stamp().id);
     }
 
-    /// Applies a waiting edit that is ready, if there is one.
-    fn release_one(&mut self) -> bool
-        ensures slots { self.new.tree.slots ≡ self.old.tree.slots }
-        ensures released { MatchBool result (vec_len self.new.shelf.edits + 1 ≡ vec_len self.old.shelf.edits) ((vec_len self.new.shelf.edits ≡ vec_len self.old.shelf.edits) × (before_ready (roster_of self.new) (shelf_of self.new) ≡ vec_len self.new.shelf.edits)) }
-    {
-        match self.shelf.take_ready(&self.roster) {
-            Some(edit) => {
-                self.apply(&edit);
-                true
-            }
-            None => false,
-        }
-    }
-
     /// Applies waiting edits that are ready until none is, and answers how many.
     fn release(&mut self) -> usize
         ensures slots { self.new.tree.slots ≡ self.old.tree.slots }
         ensures count { result + vec_len self.new.shelf.edits ≡ vec_len self.old.shelf.edits }
-        ensures none { before_ready (roster_of self.new) (shelf_of self.new) ≡ vec_len self.new.shelf.edits }
+        ensures none { first_ready (roster_of self.new) (shelf_of self.new) ≡ None }
     {
         let mut released = 0;
-        while self.release_one() {
+        while let Some(edit) = self.shelf.take_ready(&self.roster) {
+            self.apply(&edit);
             released += 1;
         }
         released

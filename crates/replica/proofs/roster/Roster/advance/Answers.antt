@@ -1,11 +1,12 @@
-use Rattle.std.proofs.Common.{rules}
-use Rattle.std.proofs.lemmas.List.Edits.{map_over_more}
-use Rattle.std.proofs.lemmas.List.{take_all, drop_all}
-use Rattle.replica.specs.Rosters.{count_up}
+use Rattle.std.proofs.Common.{ap, ◌∙◌}
+use Rattle.edits.specs.declared.clock.Pair.{Pair}
+use Rattle.replica.proofs.Places.{advanced_at, advanced_none}
 use Rattle.replica.proofs.roster.Roster.advance.Goals as goal
 
-pub loop-pair-preserved : goal.loop-pair-preserved
-loop-pair-preserved c = search (rules, map_over_more (count_up c.args.id))
+pub returns-in-Ok : goal.returns-in-Ok
+returns-in-Ok c =
+    let at = c.in-Ok.ensures in
+    advanced_at c.args.id c.args.self.now.pairs.items c.in-Ok.place _ c.args.self.now.ascending at.1 at.2 (ap (λ (p : Pair). p.editor) c.index_mut.ensures.value ∙ at.2 _)
 
-pub returns : goal.returns
-returns c = search (rules, take_all, drop_all)
+pub returns-in_default : goal.returns-in_default
+returns-in_default c = advanced_none c.args.id c.args.self.now.pairs.items c.in_default.ensures.0
