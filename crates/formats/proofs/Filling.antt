@@ -51,7 +51,7 @@ module _ (s : List ℕ) (o n i last at : ℕ) (ps : List Pair) (h : Filled s o n
       h.reads ∙ ap (λ (m : ℕ). pairs_at m last s at then (λ qs. Ok (take i ps ++ qs))) left
       ∙ ap (λ (x : Result (List Pair) Fault). x then (λ qs. Ok (take i ps ++ qs))) (pair_step (n - (i + 1)) last s at ∙ ap (λ (x : Result Pair Fault). x then more (n - (i + 1)) last s at) e)
 
-  pub pair_fails : (f : Fault) → pair_at last s at ≡ Err f → pairs_at n 0 s o ≡ Err f
+  pair_fails : (f : Fault) → pair_at last s at ≡ Err f → pairs_at n 0 s o ≡ Err f
   pair_fails f e = next_is (Err f) e
 
   pub filled_more : (p : Pair) (end : ℕ) → pair_at last s at ≡ Ok p → end ≡ at + 3 → i < length ps → Filled s o n (i + 1) p.editor end (set ps i p)
@@ -89,10 +89,14 @@ pairs_rise (suc n) low s at ps e =
     ∙ all_three (ltb low t.0.editor) (ltb 0 t.0.count) (ascending t.0.editor v.0) one.0 one.1 (pairs_rise n t.0.editor s (at + 3) v.0 v.1)
 
 -- the clock is as its pairs are
-pub clock_by : (s : List ℕ) (at n : ℕ) (r : Result (List Pair) Fault) → byte_at s at ≡ Ok n → n ≤ 16 → pairs_at n 0 s (at + 1) ≡ r → clock_at s at ≡ r
+clock_by : (s : List ℕ) (at n : ℕ) (r : Result (List Pair) Fault) → byte_at s at ≡ Ok n → n ≤ 16 → pairs_at n 0 s (at + 1) ≡ r → clock_at s at ≡ r
 clock_by s at n r b h e =
     ap (λ (x : Result ℕ Fault). x then (λ m. cond (leb m 16) (pairs_at m 0 s (at + 1)) (Err (Pairs at)))) b
     ∙ ap (λ (v : Bool). cond v (pairs_at n 0 s (at + 1)) (Err (Pairs at))) (le-leb n 16 h) ∙ e
+
+-- the next pair fails
+pub clock_fails : (s : List ℕ) (at n i last place : ℕ) (ps : List Pair) (f : Fault) → Filled s (at + 1) n i last place ps → pair_at last s place ≡ Err f → byte_at s at ≡ Ok n → n ≤ 16 → i < n → clock_at s at ≡ Err f
+clock_fails s at n i last place ps f h e b small lt = clock_by s at n (Err f) b small (pair_fails s (at + 1) n i last place ps h lt f e)
 
 unused_drop : (i : ℕ) (ps : List Pair) → unused ps ≡ true → unused (drop i ps) ≡ true
 unused_drop zero ps e = e
