@@ -1,5 +1,5 @@
 pub mod Steps
 pub mod Filling
-pub mod Parts
+pub mod Elements
 pub mod Later
 pub mod Whole

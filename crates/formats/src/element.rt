@@ -21,7 +21,7 @@ impl<'a> Reader<'a> {
     }
 
     /// The bytes of `len` elements, each tested before the next is read.
-    #[tactic(auto, using(crate::proofs::Parts::all_step))]
+    #[tactic(auto, using(crate::proofs::Elements::all_step))]
     pub(crate) fn elements<K: Kind>(&mut self, len: u8) -> Result<&'a [u8], Fault>
         ensures { MatchResult result (λ b. (all_at K.Kind.width K.Kind.unpacked len self.old.input.now self.old.at ≡ Ok tt) × (b.now ≡ take (len * K.Kind.width) (drop self.old.at self.old.input.now)) × (length b.now ≡ len * K.Kind.width) × MovesTo self.old self.new (self.old.at + len * K.Kind.width)) (λ e. all_at K.Kind.width K.Kind.unpacked len self.old.input.now self.old.at ≡ Err e) }
     {
