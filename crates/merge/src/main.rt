@@ -2,7 +2,7 @@
 #![tactic(auto)]
 
 use merger::{LONGEST_INPUT, merged};
-use std::io::{Read, Write};
+use std::io::Read;
 use std::process::ExitCode;
 
 fn main(rt: HostRuntime) -> anyhow::Result<ExitCode> {
@@ -13,11 +13,11 @@ fn main(rt: HostRuntime) -> anyhow::Result<ExitCode> {
     bounded.read_to_end(&mut input)?;
     match merged(heap, &input) {
         Ok(table) => {
-            rt.stdout().write_all(&table)?;
+            rt.print(table)?;
             Ok(ExitCode::SUCCESS)
         }
         Err(fault) => {
-            rt.print(fault.line(heap)?)?;
+            rt.println(fault)?;
             Ok(ExitCode::FAILURE)
         }
     }

@@ -19,7 +19,7 @@ const SLOTS: usize = 1_024;
 const ROOM: usize = 64;
 
 /// The table of an input, as text. The first log says of which kind the elements are.
-pub fn merged(heap: Global, input: &[u8]) -> Result<Vec<u8>, Fault>
+pub fn merged(heap: Global, input: &[u8]) -> Result<String, Fault>
     ensures { Ends input.now result }
 {
     if input.len() > LONGEST_INPUT {
@@ -36,11 +36,11 @@ pub fn merged(heap: Global, input: &[u8]) -> Result<Vec<u8>, Fault>
 fn holds_cells(input: &[u8]) -> bool
     ensures { result ≡ (is_some (head_at input.now 0) && (nat_lt 2 (length input.now) && slice_index input.now 2 == 2)) }
 {
-    head_at(input, 0).is_some() && input.len() > 2 && input[2] == <Cell as Kind>::kind_byte()
+    head_at(input, 0).is_some() && input.get(2).copied() == Some(Cell::kind_byte())
 }
 
 /// The table of an input with elements of the kind.
-fn table_of<K: Kind>(heap: Global, input: &[u8]) -> Result<Vec<u8>, Fault>
+fn table_of<K: Kind>(heap: Global, input: &[u8]) -> Result<String, Fault>
     requires { length input.now ≤ 65536 }
     ensures { Ends input.now result }
 {
@@ -54,8 +54,6 @@ fn settled_of<K: Kind>(heap: Global, input: &[u8]) -> Result<Merge<K, Settled>, 
 {
     let mut merge = Merge::<K, Gathering>::new(heap, SLOTS, ROOM)?;
     merge.gather(input)?;
-    match merge.settle() {
-        Ok(settled) => Ok(settled),
-        Err((_, fault)) => Err(fault),
-    }
+    let settled = merge.settle()?;
+    Ok(settled)
 }

@@ -12,5 +12,5 @@ pub returns : goal.returns
 returns g c =
     let merge = c.in_ok-settled.settled in
     MatchResult-weaker c.show.result c.show.ensures
-    (λ v h. (c.requires, (merge.reading.shown, entries_in merge.replica - merge.reading.shown, h.0, roster_of merge.replica, h.1)))
+    (λ v h. (c.requires, (merge.reading.shown, entries_in merge.replica - merge.reading.shown, _, roster_of merge.replica, h)))
     (λ f h long. absurd (omega (arith, long, c.requires)))
