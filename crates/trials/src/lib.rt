@@ -62,41 +62,41 @@ mod tests {
 
     #[test]
     fn heads(rt: HostRuntime) -> Result<(), Fail> {
-        all_pass(&rt, rt.alloc(), &HEADS)
+        all_pass(&rt, rt.alloc(), HEADS)
     }
 
     #[test]
     fn extents(rt: HostRuntime) -> Result<(), Fail> {
-        all_pass(&rt, rt.alloc(), &EXTENTS)
+        all_pass(&rt, rt.alloc(), EXTENTS)
     }
 
     #[test]
     fn numbering(rt: HostRuntime) -> Result<(), Fail> {
-        all_pass(&rt, rt.alloc(), &NUMBERING)
+        all_pass(&rt, rt.alloc(), NUMBERING)
     }
 
     #[test]
     fn pairs(rt: HostRuntime) -> Result<(), Fail> {
-        all_pass(&rt, rt.alloc(), &PAIRS)
+        all_pass(&rt, rt.alloc(), PAIRS)
     }
 
     #[test]
     fn references(rt: HostRuntime) -> Result<(), Fail> {
-        all_pass(&rt, rt.alloc(), &REFERENCES)
+        all_pass(&rt, rt.alloc(), REFERENCES)
     }
 
     #[test]
     fn elements(rt: HostRuntime) -> Result<(), Fail> {
-        all_pass(&rt, rt.alloc(), &ELEMENTS)
+        all_pass(&rt, rt.alloc(), ELEMENTS)
     }
 
     #[test]
     fn taking_in(rt: HostRuntime) -> Result<(), Fail> {
-        all_pass(&rt, rt.alloc(), &TAKING_IN)
+        all_pass(&rt, rt.alloc(), TAKING_IN)
     }
 
     #[test]
     fn documents(rt: HostRuntime) -> Result<(), Fail> {
-        all_pass(&rt, rt.alloc(), &DOCUMENTS)
+        all_pass(&rt, rt.alloc(), DOCUMENTS)
     }
 }
