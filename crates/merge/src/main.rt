@@ -9,8 +9,9 @@ fn main(rt: HostRuntime) -> anyhow::Result<ExitCode> {
     let heap = rt.alloc();
     let mut input = Vec::new(heap);
     // One byte more than is allowed shows that the input is too long.
-    let mut bounded = rt.stdin().take(LONGEST_INPUT as u64 + 1);
-    bounded.read_to_end(&mut input)?;
+    rt.stdin()
+        .take(LONGEST_INPUT as u64 + 1)
+        .read_to_end(&mut input)?;
     match merged(heap, &input) {
         Ok(table) => {
             rt.print(table)?;

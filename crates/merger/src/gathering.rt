@@ -23,6 +23,7 @@ impl<K: Kind, S: State> Merge<K, S> {
             return Err(Fault::WrongSize);
         }
         let mut format = None;
+        // Each part tells only when it is read where the next begins, and a refusal names its offset in the input.
         let mut at = 0;
         while at < input.len() {
             if let Some(next) = head_at(input, at) {

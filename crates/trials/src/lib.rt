@@ -49,10 +49,10 @@ mod tests {
     use std::process::Abort;
     use std::test::Fail;
 
-    fn all_pass(rt: &impl Abort, heap: Global, cases: &[Case]) -> Result<(), Fail> {
+    fn all_pass(rt: &(impl Abort + AllocGlobal), cases: &[Case]) -> Result<(), Fail> {
         for case in cases {
             assert!(rt;
-                case.printed(heap)?.as_str() == case.prints,
+                case.printed(rt.alloc())?.as_str() == case.prints,
                 "{}",
                 case.name
             );
@@ -62,41 +62,41 @@ mod tests {
 
     #[test]
     fn heads(rt: HostRuntime) -> Result<(), Fail> {
-        all_pass(&rt, rt.alloc(), HEADS)
+        all_pass(&rt, HEADS)
     }
 
     #[test]
     fn extents(rt: HostRuntime) -> Result<(), Fail> {
-        all_pass(&rt, rt.alloc(), EXTENTS)
+        all_pass(&rt, EXTENTS)
     }
 
     #[test]
     fn numbering(rt: HostRuntime) -> Result<(), Fail> {
-        all_pass(&rt, rt.alloc(), NUMBERING)
+        all_pass(&rt, NUMBERING)
     }
 
     #[test]
     fn pairs(rt: HostRuntime) -> Result<(), Fail> {
-        all_pass(&rt, rt.alloc(), PAIRS)
+        all_pass(&rt, PAIRS)
     }
 
     #[test]
     fn references(rt: HostRuntime) -> Result<(), Fail> {
-        all_pass(&rt, rt.alloc(), REFERENCES)
+        all_pass(&rt, REFERENCES)
     }
 
     #[test]
     fn elements(rt: HostRuntime) -> Result<(), Fail> {
-        all_pass(&rt, rt.alloc(), ELEMENTS)
+        all_pass(&rt, ELEMENTS)
     }
 
     #[test]
     fn taking_in(rt: HostRuntime) -> Result<(), Fail> {
-        all_pass(&rt, rt.alloc(), TAKING_IN)
+        all_pass(&rt, TAKING_IN)
     }
 
     #[test]
     fn documents(rt: HostRuntime) -> Result<(), Fail> {
-        all_pass(&rt, rt.alloc(), DOCUMENTS)
+        all_pass(&rt, DOCUMENTS)
     }
 }
