@@ -1,9 +1,10 @@
 //! From an input to the table that is printed of it.
-ghost use Rattle.std.specs.Prelude.{◌≡◌, ◌≤◌, ◌&&◌, length, is_some, IfOk, None, ◌==◌, nat_lt, slice_index};
+ghost use Rattle.std.specs.Prelude.{◌≡◌, ◌≤◌, true, false, length, IfOk, None};
 ghost use Rattle.replica.specs.Shelves.{lowest_from};
 ghost use Rattle.replica.specs.Taking.{shelf_of};
-ghost use Rattle.formats.specs.Marks.{head_at};
-ghost use Rattle.merger.specs.Tables.{Ends};
+ghost use Rattle.elements.specs.Cells.{cell_bytes};
+ghost use Rattle.elements.specs.Fours.{four};
+ghost use Rattle.merger.specs.Tables.{Ends, holds_cells};
 
 use crate::gathering::LONGEST_INPUT;
 use crate::merge::{Gathering, Merge, Settled};
@@ -20,7 +21,8 @@ const ROOM: usize = 64;
 
 /// The table of an input, as text. The first log says of which kind the elements are.
 pub fn merged(heap: Global, input: &[u8]) -> Result<String, Fault>
-    ensures { Ends input.now result }
+    ensures cells { holds_cells input.now ≡ true → Ends cell_bytes input.now result }
+    ensures characters { holds_cells input.now ≡ false → Ends four input.now result }
 {
     if input.len() > LONGEST_INPUT {
         return Err(Fault::WrongSize);
@@ -34,7 +36,7 @@ pub fn merged(heap: Global, input: &[u8]) -> Result<String, Fault>
 
 /// Whether the input begins with a log of cells.
 fn holds_cells(input: &[u8]) -> bool
-    ensures { result ≡ (is_some (head_at input.now 0) && (nat_lt 2 (length input.now) && slice_index input.now 2 == 2)) }
+    ensures { result ≡ holds_cells input.now }
 {
     head_at(input, 0).is_some() && input.get(2).copied() == Some(Cell::kind_byte())
 }
@@ -42,7 +44,7 @@ fn holds_cells(input: &[u8]) -> bool
 /// The table of an input with elements of the kind.
 fn table_of<K: Kind>(heap: Global, input: &[u8]) -> Result<String, Fault>
     requires { length input.now ≤ 65536 }
-    ensures { Ends input.now result }
+    ensures { Ends K.Kind.packed input.now result }
 {
     let settled = settled_of::<K>(heap, input)?;
     settled.show(heap)

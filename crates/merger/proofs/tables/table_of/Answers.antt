@@ -7,5 +7,5 @@ pub returns : goal.returns
 returns g c =
     let merge = c.in_ok-settled.settled in
     MatchResult-weaker c.show.result c.show.ensures
-    (λ table h. (c.requires, (merge.reading.shown, entries_in merge.replica - merge.reading.shown, _, roster_of merge.replica, h)))
+    (λ table h. (c.requires, (merge.reading.shown, entries_in merge.replica - merge.reading.shown, merge.replica.tree.nodes.items, merge.reading.order.items, roster_of merge.replica, h)))
     (λ fault h long. absurd (omega arith))
