@@ -1,5 +1,5 @@
 -- What is printed of a settled merge.
-use Rattle.std.specs.Prelude.{ℕ, cond, List, [], ◌++◌, Some, None, Option, codes, decimal, nat_lt}
+use Rattle.std.specs.Prelude.{ℕ, ◌-◌, cond, List, [], ◌++◌, Some, None, Option, codes, decimal, vec_items, nat_lt}
 use Rattle.std.specs.List.{flat_map}
 use Rattle.digits.specs.Hex.{hex_text}
 use Rattle.edits.specs.declared.id.Id.{Id}
@@ -7,7 +7,10 @@ use Rattle.edits.specs.declared.clock.Pair.{Pair}
 use Rattle.edits.specs.Ids.{id_text}
 use Rattle.tree.specs.declared.node.Entry.{Entry}
 use Rattle.tree.specs.declared.node.Node.{Node}
+use Rattle.tree.specs.declared.reading.Reading.{Reading}
 use Rattle.tree.specs.Entries.{entry_at}
+use Rattle.replica.specs.declared.replica.Replica.{Replica}
+use Rattle.replica.specs.Taking.{roster_of, entries_in}
 
 -- how many entries are shown, and how many are tombstones
 abbrev pub counts_line : ℕ → ℕ → List ℕ
@@ -36,3 +39,8 @@ pairs_text ps = flat_map pair_text ps
 -- the clock
 abbrev pub clock_line : List Pair → List ℕ
 clock_line ps = codes "clock" ++ (pairs_text ps ++ codes "\n")
+
+-- the table of a replica's entries in the order of a reading: the counts, the lines, and the clock
+abbrev pub table_text : {E : Type 0} → (E → List ℕ) → Replica E → Reading → List ℕ
+table_text packed replica reading =
+    counts_line reading.shown (entries_in replica - reading.shown) ++ (entry_lines packed (vec_items replica.tree.nodes) (vec_items reading.order) ++ clock_line (roster_of replica))

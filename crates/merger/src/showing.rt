@@ -1,10 +1,9 @@
 //! The table of a settled merge, as text.
-ghost use Rattle.std.specs.Prelude.{◌≡◌, ℕ, ◌-◌, true, ◌++◌, IfSome, Some, None, MatchResult, string_bytes, slice_index_or};
+ghost use Rattle.std.specs.Prelude.{◌≡◌, ℕ, true, IfSome, Some, None, MatchResult, string_bytes, slice_index_or};
 ghost use Rattle.digits.specs.Hex.{hex_text};
 ghost use Rattle.edits.specs.declared.fault.Fault.TheVariants.{NoMemory};
 ghost use Rattle.tree.specs.Entries.{entry_at, names};
-ghost use Rattle.replica.specs.Taking.{roster_of, entries_in};
-ghost use Rattle.merger.specs.Lines.{counts_line, entry_line, entry_lines, pairs_text, clock_line};
+ghost use Rattle.merger.specs.Lines.{entry_line, entry_lines, pairs_text, table_text};
 
 use crate::merge::{Merge, State};
 use digits::pair;
@@ -28,7 +27,7 @@ impl<K: Kind, S: State> Merge<K, S> {
     /// The table: a line with the counts, a line for each shown entry in reading order, a line with the clock.
     pub fn show(&self, heap: Global) -> Result<String, Fault>
         requires { S.State.settled ≡ true }
-        ensures { MatchResult result (λ t. string_bytes t ≡ counts_line self.now.reading.shown (entries_in self.now.replica - self.now.reading.shown) ++ (entry_lines K.Kind.packed self.now.replica.tree.nodes.items self.now.reading.order.items ++ clock_line (roster_of self.now.replica))) (λ f. f ≡ NoMemory) }
+        ensures { MatchResult result (λ t. string_bytes t ≡ table_text K.Kind.packed self.now.replica self.now.reading) (λ f. f ≡ NoMemory) }
     {
         let shown = self.reading.shown();
         let tombstones = self.replica.entries().saturating_sub(shown);
