@@ -1,5 +1,5 @@
 -- What is printed of a settled merge.
-use Rattle.std.specs.Prelude.{ℕ, ◌-◌, cond, List, [], ◌++◌, Some, None, Option, codes, decimal, vec_items, nat_lt}
+use Rattle.std.specs.Prelude.{ℕ, ◌-◌, if◌then◌else◌, List, [], ◌++◌, Some, None, Option, codes, decimal, vec_items, nat_lt}
 use Rattle.std.specs.List.{flat_map}
 use Rattle.digits.specs.Hex.{hex_text}
 use Rattle.edits.specs.declared.id.Id.{Id}
@@ -23,7 +23,7 @@ entry_line id bytes = id_text id ++ (codes " " ++ (hex_text bytes ++ codes "\n")
 -- the line of an entry, if there is one and it is shown
 abbrev pub shown_line : {E : Type 0} → (E → List ℕ) → Option (Entry E) → List ℕ
 shown_line packed None = []
-shown_line packed (Some entry) = cond entry.shown (entry_line entry.id (packed entry.element)) []
+shown_line packed (Some entry) = if entry.shown then entry_line entry.id (packed entry.element) else []
 
 -- the lines of the entries in slots, in turn
 abbrev pub entry_lines : {E : Type 0} → (E → List ℕ) → List (Node E) → List ℕ → List ℕ
@@ -31,7 +31,7 @@ entry_lines packed nodes slots = flat_map (λ slot. shown_line packed (entry_at 
 
 -- an editor and its count, if an edit of it was applied
 abbrev pub pair_text : Pair → List ℕ
-pair_text p = cond (nat_lt 0 p.count) (codes " " ++ (decimal p.editor ++ (codes ":" ++ decimal p.count))) []
+pair_text p = if nat_lt 0 p.count then codes " " ++ (decimal p.editor ++ (codes ":" ++ decimal p.count)) else []
 
 abbrev pub pairs_text : List Pair → List ℕ
 pairs_text ps = flat_map pair_text ps
