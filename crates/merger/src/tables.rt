@@ -1,11 +1,13 @@
 //! From an input to the table that is printed of it.
-ghost use Rattle.std.specs.Prelude.{◌≡◌, ◌≤◌, true, false, length};
+ghost use Rattle.std.specs.Prelude.{◌≡◌, ◌≤◌, true, false, length, IfOk, None};
+ghost use Rattle.replica.specs.Shelves.{lowest_from};
+ghost use Rattle.replica.specs.Taking.{shelf_of};
 ghost use Rattle.elements.specs.Cells.{cell_bytes};
 ghost use Rattle.elements.specs.Fours.{four};
 ghost use Rattle.merger.specs.Tables.{Ends, holds_cells};
 
 use crate::gathering::LONGEST_INPUT;
-use crate::merge::{Gathering, Merge};
+use crate::merge::{Gathering, Merge, Settled};
 use edits::Fault;
 use elements::{Cell, Kind};
 use formats::head_at;
@@ -44,8 +46,16 @@ fn table_of<K: Kind>(heap: Global, input: &[u8]) -> Result<String, Fault>
     requires { length input.now ≤ 65536 }
     ensures { Ends K.Kind.packed input.now result }
 {
+    let settled = settled_of::<K>(heap, input)?;
+    settled.show(heap)
+}
+
+/// The settled merge of an input with elements of the kind.
+fn settled_of<K: Kind>(heap: Global, input: &[u8]) -> Result<Merge<K, Settled>, Fault>
+    ensures { IfOk result (λ x. (x.replica.tree.slots ≡ 1024) × (lowest_from None (shelf_of x.replica) ≡ None)) }
+{
     let mut merge = Merge::<K, Gathering>::new(heap, SLOTS, ROOM)?;
     merge.gather(input)?;
     let settled = merge.settle()?;
-    settled.show(heap)
+    Ok(settled)
 }

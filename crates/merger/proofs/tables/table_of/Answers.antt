@@ -4,8 +4,8 @@ use Rattle.merger.proofs.tables.table_of.Goals as goal
 
 pub returns : goal.returns
 returns g c =
-    let settled = c.in_ok-settled.settled in
-    let settle = c.in_ok-settled.ensures in
+    let merge = c.in_ok-settled.settled in
+    let kept = c.in_ok-settled.ensures in
     MatchResult-weaker c.show.result c.show.ensures
-    (λ table shown. (c.requires, (settled.replica, settled.reading, rw settle.0 (cc (c.in_ok-gather.ensures.slots, c.in_ok-merge.ensures.3)), rw settle.0 settle.1, shown)))
+    (λ table shown. (c.requires, (merge.replica, merge.reading, kept.0, kept.1, shown)))
     (λ fault h long. absurd (omega arith))
