@@ -2,22 +2,23 @@
 #![tactic(auto)]
 
 use merger::{LONGEST_INPUT, merged};
-use std::io::{Read, Write};
+use std::io::Read;
 use std::process::ExitCode;
 
 fn main(rt: HostRuntime) -> anyhow::Result<ExitCode> {
     let heap = rt.alloc();
     let mut input = Vec::new(heap);
     // One byte more than is allowed shows that the input is too long.
-    let mut bounded = rt.stdin().take(LONGEST_INPUT as u64 + 1);
-    bounded.read_to_end(&mut input)?;
+    rt.stdin()
+        .take(LONGEST_INPUT as u64 + 1)
+        .read_to_end(&mut input)?;
     match merged(heap, &input) {
         Ok(table) => {
-            rt.stdout().write_all(&table)?;
+            rt.print(table)?;
             Ok(ExitCode::SUCCESS)
         }
         Err(fault) => {
-            rt.print(fault.line(heap)?)?;
+            rt.println(fault)?;
             Ok(ExitCode::FAILURE)
         }
     }

@@ -8,5 +8,5 @@ mod showing;
 mod tables;
 
 pub use gathering::LONGEST_INPUT;
-pub use merge::{Gathering, Merge, Settled, State};
+pub use merge::{Gathering, Merge, Settled, State, Unsettled};
 pub use tables::merged;

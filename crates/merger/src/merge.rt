@@ -1,12 +1,14 @@
 //! A merge and its states.
 ghost use Rattle.std.specs.Prelude.{◌≤◌, Bool, true, false};
 
+use edits::Id;
 use elements::Kind;
 use replica::Replica;
 use tree::Reading;
 
 /// What a merge is ready for. The state is a part of the merge's type, and the calls that want one state ask for it: a
 /// program that shows a merge still gathering, or gathers into a settled one, is not proved.
+// A clause asks for the state, and not the type of `self`: so a misuse compiles, and that the prover refuses it is tried.
 pub trait State {
     /// Whether the merge shows its table, and takes in no logs.
     ghost settled: { Bool };
@@ -36,4 +38,13 @@ pub struct Merge<K: Kind, S> {
     pub(crate) reading: Reading,
     pub(crate) state: S,
     ghost sized: { replica.tree.slots ≤ reading.most },
+}
+
+/// A merge that is not settled, since edits still wait.
+#[derive(Drop)]
+pub struct Unsettled<K: Kind> {
+    /// The merge as it was.
+    pub merge: Merge<K, Gathering>,
+    /// The lowest of the edits that wait.
+    pub lowest: Id,
 }

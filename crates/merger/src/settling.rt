@@ -1,12 +1,11 @@
 //! Merges made, settled and opened again.
 ghost use Rattle.std.specs.Prelude.{◌≡◌, ℕ, true, ◌&&◌, [], if◌then◌else◌, Some, None, MatchResult};
-ghost use Rattle.edits.specs.declared.id.Id.{Id};
 ghost use Rattle.edits.specs.declared.fault.Fault.TheVariants.{NoMemory, OutsideLimits, StillWaiting};
 ghost use Rattle.tree.specs.Entries.{slots_allowed};
 ghost use Rattle.replica.specs.Shelves.{room_allowed, lowest_from};
 ghost use Rattle.replica.specs.Taking.{roster_of, shelf_of, entries_in};
 
-use crate::merge::{Gathering, Merge, Settled};
+use crate::merge::{Gathering, Merge, Settled, Unsettled};
 use edits::Fault;
 use elements::Kind;
 use replica::Replica;
@@ -27,22 +26,21 @@ impl<K: Kind> Merge<K, Gathering> {
         })
     }
 
-    /// Settles the merge, unless edits still wait; then it is handed back as it was, with the lowest of them.
-    pub fn settle(self) -> Result<Merge<K, Settled>, (Merge<K, Gathering>, Fault)>
-        ensures { MatchResult result (λ s. (s.replica ≡ self.replica) × (lowest_from None (shelf_of self.replica) ≡ None)) (λ e. (e.0 ≡ self) × ((id : Id) × (e.1 ≡ StillWaiting id) × (lowest_from None (shelf_of self.replica) ≡ Some id))) }
+    /// Settles the merge, unless edits still wait.
+    pub fn settle(self) -> Result<Merge<K, Settled>, Unsettled<K>>
+        ensures { MatchResult result (λ s. (s.replica ≡ self.replica) × (lowest_from None (shelf_of self.replica) ≡ None)) (λ e. (e.merge ≡ self) × (lowest_from None (shelf_of self.replica) ≡ Some e.lowest)) }
     {
-        if let Some(id) = self.replica.lowest_waiting() {
-            return Err((self, Fault::StillWaiting(id)));
+        if let Some(lowest) = self.replica.lowest_waiting() {
+            return Err(Unsettled {
+                merge: self,
+                lowest,
+            });
         }
-        let Merge {
-            replica,
-            mut reading,
-            state: _,
-        } = self;
+        let mut reading = self.reading;
         // Never refused: the reading has memory for every slot.
-        let _ = replica.read(&mut reading);
+        self.replica.read(&mut reading).unwrap();
         Ok(Merge {
-            replica,
+            replica: self.replica,
             reading,
             state: Settled,
         })
@@ -54,15 +52,18 @@ impl<K: Kind> Merge<K, Settled> {
     pub fn reopen(self) -> Merge<K, Gathering>
         ensures { result.replica ≡ self.replica }
     {
-        let Merge {
-            replica,
-            reading,
-            state: _,
-        } = self;
         Merge {
-            replica,
-            reading,
+            replica: self.replica,
+            reading: self.reading,
             state: Gathering,
         }
+    }
+}
+
+impl<K: Kind> From<Unsettled<K>> for Fault {
+    ghost from_gives = { λ e f. f ≡ StillWaiting e.lowest };
+
+    fn from(unsettled: Unsettled<K>) -> Fault {
+        Fault::StillWaiting(unsettled.lowest)
     }
 }

@@ -1,17 +1,18 @@
 //! The table of a settled merge, as text.
-ghost use Rattle.std.specs.Prelude.{◌≡◌, ℕ, ◌-◌, true, List, ◌++◌, IfSome, Some, None, MatchResult, slice_index_or};
+ghost use Rattle.std.specs.Prelude.{◌≡◌, ℕ, true, IfSome, Some, None, MatchResult, string_bytes, slice_index_or};
 ghost use Rattle.digits.specs.Hex.{hex_text};
 ghost use Rattle.edits.specs.declared.fault.Fault.TheVariants.{NoMemory};
 ghost use Rattle.tree.specs.Entries.{entry_at, names};
-ghost use Rattle.replica.specs.Taking.{roster_of, entries_in};
-ghost use Rattle.merger.specs.Lines.{counts_line, entry_line, pair_text, pairs_text, clock_line};
+ghost use Rattle.merger.specs.Lines.{entry_line, entry_lines, pairs_text, table_text};
 
 use crate::merge::{Merge, State};
 use digits::pair;
 use edits::{Fault, Id, Pair};
 use elements::Kind;
+use replica::Replica;
 use std::alloc::Global;
-use tree::Entry;
+use std::fmt;
+use tree::{Entry, Reading};
 
 impl<K: Kind, S: State> Merge<K, S> {
     /// The index at which an entry is shown; none for a tombstone and for what is no entry.
@@ -24,113 +25,89 @@ impl<K: Kind, S: State> Merge<K, S> {
     }
 
     /// The table: a line with the counts, a line for each shown entry in reading order, a line with the clock.
-    pub fn show(&self, heap: Global) -> Result<Vec<u8>, Fault>
+    pub fn show(&self, heap: Global) -> Result<String, Fault>
         requires { S.State.settled ≡ true }
-        ensures { MatchResult result (λ v. (lines : List ℕ) × (v.items ≡ counts_line self.now.reading.shown (entries_in self.now.replica - self.now.reading.shown) ++ (lines ++ clock_line (roster_of self.now.replica)))) (λ f. f ≡ NoMemory) }
-    {
-        let mut text = self.counts_text(heap)?;
-        self.write_entries(heap, &mut text)?;
-        self.write_clock(heap, &mut text)?;
-        Ok(text)
-    }
-
-    /// The line with the counts.
-    fn counts_text(&self, heap: Global) -> Result<Vec<u8>, Fault>
-        ensures { MatchResult result (λ v. v.items ≡ counts_line self.now.reading.shown (entries_in self.now.replica - self.now.reading.shown)) (λ f. f ≡ NoMemory) }
+        ensures { MatchResult result (λ t. string_bytes t ≡ table_text K.Kind.packed self.now.replica self.now.reading) (λ f. f ≡ NoMemory) }
     {
         let shown = self.reading.shown();
         let tombstones = self.replica.entries().saturating_sub(shown);
-        let line = format!(in heap; "shown {shown} tombstones {tombstones}\n")?;
-        Ok(line.as_bytes().to_vec(heap)?)
-    }
-
-    /// Writes a line for each shown entry, in reading order.
-    fn write_entries(&self, heap: Global, text: &mut Vec<u8>) -> Result<(), Fault>
-        requires { S.State.settled ≡ true }
-        ensures { MatchResult result (λ _. (lines : List ℕ) × (text.new.items ≡ text.old.items ++ lines)) (λ f. f ≡ NoMemory) }
-    {
-        for slot in self.reading.order() {
-            self.write_slot(heap, *slot, text)?;
-        }
-        Ok(())
-    }
-
-    /// Writes the line of the entry in a slot, if it is shown.
-    fn write_slot(&self, heap: Global, slot: usize, text: &mut Vec<u8>) -> Result<(), Fault>
-        requires { S.State.settled ≡ true }
-        ensures { MatchResult result (λ _. (lines : List ℕ) × (text.new.items ≡ text.old.items ++ lines)) (λ f. f ≡ NoMemory) }
-    {
-        let Some(entry) = self.replica.entry(slot) else {
-            return Ok(());
+        let lines = Lines {
+            replica: &self.replica,
+            reading: &self.reading,
         };
-        match self.lookup(entry.id) {
-            Some(_) => write_entry(heap, &entry, text),
-            None => Ok(()),
-        }
+        let counts = Counts(self.replica.counts());
+        Ok(format!(in heap; "shown {shown} tombstones {tombstones}\n{lines}clock{counts}\n")?)
     }
+}
 
-    /// Writes the clock: a blank, the editor and its count, for each editor with an applied edit.
-    fn write_clock(&self, heap: Global, text: &mut Vec<u8>) -> Result<(), Fault>
-        ensures { MatchResult result (λ _. text.new.items ≡ text.old.items ++ clock_line (roster_of self.now.replica)) (λ f. f ≡ NoMemory) }
-    {
-        text.extend_from_slice(b"clock")?;
-        write_pairs(heap, self.replica.counts(), text)?;
-        text.extend_from_slice(b"\n")?;
+/// A line for each shown entry, in reading order.
+#[derive(Clone, Copy)]
+struct Lines<'a, K: Kind> {
+    replica: &'a Replica<K>,
+    reading: &'a Reading,
+}
+
+impl<K: Kind> fmt::Display for Lines<'_, K> {
+    ghost output = { λ x. Some (entry_lines K.Kind.packed x.replica.now.tree.nodes.items x.reading.now.order.items) };
+
+    fn fmt<W: fmt::Write>(&self, f: &mut fmt::Formatter<W>) -> fmt::Result {
+        for slot in self.reading.order() {
+            if let Some(entry) = self.replica.entry(*slot)
+                && entry.shown
+            {
+                write!(f, "{}", Line(entry))?;
+            }
+        }
         Ok(())
     }
 }
 
-/// Writes a blank, the editor and its count, for each pair that counts an edit.
-fn write_pairs(heap: Global, pairs: &[Pair], text: &mut Vec<u8>) -> Result<(), Fault>
-    ensures { MatchResult result (λ _. text.new.items ≡ text.old.items ++ pairs_text pairs.now) (λ f. f ≡ NoMemory) }
-{
-    for p in pairs {
-        write_pair(heap, *p, text)?;
+/// The line of an entry: its identifier, and its element's bytes as digits.
+#[derive(Clone, Copy)]
+struct Line<K: Kind>(Entry<K>);
+
+impl<K: Kind> fmt::Display for Line<K> {
+    ghost output = { λ x. Some (entry_line x.0.id (K.Kind.packed x.0.element)) };
+
+    fn fmt<W: fmt::Write>(&self, f: &mut fmt::Formatter<W>) -> fmt::Result {
+        // No kind is wider.
+        let mut buffer = [0; 15];
+        let bytes = &mut buffer[..K::bytes()];
+        self.0.element.pack(bytes);
+        writeln!(f, "{} {}", self.0.id, Digits(bytes))
     }
-    Ok(())
 }
 
-fn write_pair(heap: Global, pair: Pair, text: &mut Vec<u8>) -> Result<(), Fault>
-    ensures { MatchResult result (λ _. text.new.items ≡ text.old.items ++ pair_text pair) (λ f. f ≡ NoMemory) }
-{
-    if pair.count > 0 {
-        let editor = pair.editor;
-        let count = pair.count;
-        let word = format!(in heap; " {editor}:{count}")?;
-        text.extend_from_slice(word.as_bytes())?;
+/// Bytes, two digits for each.
+#[derive(Clone, Copy)]
+struct Digits<'a>(&'a [u8]);
+
+impl fmt::Display for Digits<'_> {
+    ghost output = { λ x. Some (hex_text x.0.now) };
+
+    fn fmt<W: fmt::Write>(&self, f: &mut fmt::Formatter<W>) -> fmt::Result {
+        for byte in self.0 {
+            let [high, low] = pair(*byte);
+            f.write_char(char::from(high))?;
+            f.write_char(char::from(low))?;
+        }
+        Ok(())
     }
-    Ok(())
 }
 
-/// Writes the line of an entry: its identifier, and its element's bytes as digits.
-fn write_entry<K: Kind>(heap: Global, entry: &Entry<K>, text: &mut Vec<u8>) -> Result<(), Fault>
-    ensures { MatchResult result (λ _. text.new.items ≡ text.old.items ++ entry_line entry.now.id (K.Kind.packed entry.now.element)) (λ f. f ≡ NoMemory) }
-{
-    let id = entry.id.text(heap)?;
-    text.extend_from_slice(id.as_bytes())?;
-    text.extend_from_slice(b" ")?;
-    write_element(&entry.element, text)?;
-    text.extend_from_slice(b"\n")?;
-    Ok(())
-}
+/// The counts of a clock: a blank, the editor and its count, for each editor with an applied edit.
+#[derive(Clone, Copy)]
+struct Counts<'a>(&'a [Pair]);
 
-/// Writes the digits of an element's bytes.
-fn write_element<K: Kind>(element: &K, text: &mut Vec<u8>) -> Result<(), Fault>
-    ensures { MatchResult result (λ _. text.new.items ≡ text.old.items ++ hex_text (K.Kind.packed element.now)) (λ f. f ≡ NoMemory) }
-{
-    // No kind is wider.
-    let mut buffer = [0; 15];
-    let bytes = &mut buffer[0..K::bytes()];
-    element.pack(bytes);
-    write_digits(bytes, text)
-}
+impl fmt::Display for Counts<'_> {
+    ghost output = { λ x. Some (pairs_text x.0.now) };
 
-/// Writes the digits of bytes in turn.
-fn write_digits(bytes: &[u8], text: &mut Vec<u8>) -> Result<(), Fault>
-    ensures { MatchResult result (λ _. text.new.items ≡ text.old.items ++ hex_text bytes.now) (λ f. f ≡ NoMemory) }
-{
-    for byte in bytes {
-        text.extend_from_slice(&pair(*byte))?;
+    fn fmt<W: fmt::Write>(&self, f: &mut fmt::Formatter<W>) -> fmt::Result {
+        for pair in self.0 {
+            if pair.count > 0 {
+                write!(f, " {}:{}", pair.editor, pair.count)?;
+            }
+        }
+        Ok(())
     }
-    Ok(())
 }

@@ -1,9 +1,10 @@
 //! From an input to the table that is printed of it.
-ghost use Rattle.std.specs.Prelude.{◌≡◌, ◌≤◌, ◌&&◌, length, is_some, IfOk, None, ◌==◌, nat_lt, slice_index};
+ghost use Rattle.std.specs.Prelude.{◌≡◌, ◌≤◌, true, false, length, IfOk, None};
 ghost use Rattle.replica.specs.Shelves.{lowest_from};
 ghost use Rattle.replica.specs.Taking.{shelf_of};
-ghost use Rattle.formats.specs.Marks.{head_at};
-ghost use Rattle.merger.specs.Tables.{Ends};
+ghost use Rattle.elements.specs.Cells.{cell_bytes};
+ghost use Rattle.elements.specs.Fours.{four};
+ghost use Rattle.merger.specs.Tables.{Ends, holds_cells};
 
 use crate::gathering::LONGEST_INPUT;
 use crate::merge::{Gathering, Merge, Settled};
@@ -19,8 +20,9 @@ const SLOTS: usize = 1_024;
 const ROOM: usize = 64;
 
 /// The table of an input, as text. The first log says of which kind the elements are.
-pub fn merged(heap: Global, input: &[u8]) -> Result<Vec<u8>, Fault>
-    ensures { Ends input.now result }
+pub fn merged(heap: Global, input: &[u8]) -> Result<String, Fault>
+    ensures cells { holds_cells input.now ≡ true → Ends cell_bytes input.now result }
+    ensures characters { holds_cells input.now ≡ false → Ends four input.now result }
 {
     if input.len() > LONGEST_INPUT {
         return Err(Fault::WrongSize);
@@ -34,15 +36,15 @@ pub fn merged(heap: Global, input: &[u8]) -> Result<Vec<u8>, Fault>
 
 /// Whether the input begins with a log of cells.
 fn holds_cells(input: &[u8]) -> bool
-    ensures { result ≡ (is_some (head_at input.now 0) && (nat_lt 2 (length input.now) && slice_index input.now 2 == 2)) }
+    ensures { result ≡ holds_cells input.now }
 {
-    head_at(input, 0).is_some() && input.len() > 2 && input[2] == <Cell as Kind>::kind_byte()
+    head_at(input, 0).is_some() && input.get(2).copied() == Some(Cell::kind_byte())
 }
 
 /// The table of an input with elements of the kind.
-fn table_of<K: Kind>(heap: Global, input: &[u8]) -> Result<Vec<u8>, Fault>
+fn table_of<K: Kind>(heap: Global, input: &[u8]) -> Result<String, Fault>
     requires { length input.now ≤ 65536 }
-    ensures { Ends input.now result }
+    ensures { Ends K.Kind.packed input.now result }
 {
     let settled = settled_of::<K>(heap, input)?;
     settled.show(heap)
@@ -54,8 +56,6 @@ fn settled_of<K: Kind>(heap: Global, input: &[u8]) -> Result<Merge<K, Settled>, 
 {
     let mut merge = Merge::<K, Gathering>::new(heap, SLOTS, ROOM)?;
     merge.gather(input)?;
-    match merge.settle() {
-        Ok(settled) => Ok(settled),
-        Err((_, fault)) => Err(fault),
-    }
+    let settled = merge.settle()?;
+    Ok(settled)
 }

@@ -5,7 +5,7 @@
 use crate::Case;
 
 /// Heads and marks.
-pub(crate) static HEADS: [Case; 14] = [
+pub(crate) static HEADS: &[Case] = &[
     Case {
         name: "empty input",
         input: "",
@@ -79,7 +79,7 @@ pub(crate) static HEADS: [Case; 14] = [
 ];
 
 /// Fields that are cut off.
-pub(crate) static EXTENTS: [Case; 10] = [
+pub(crate) static EXTENTS: &[Case] = &[
     Case {
         name: "editor cut off",
         input: "4C3601 | 494E",
@@ -133,7 +133,7 @@ pub(crate) static EXTENTS: [Case; 10] = [
 ];
 
 /// Identifiers.
-pub(crate) static NUMBERING: [Case; 8] = [
+pub(crate) static NUMBERING: &[Case] = &[
     Case {
         name: "editor 0, number 0 behind it",
         input: "4C3601 | 494E 000000 00 000000 01 00000041",
@@ -177,7 +177,7 @@ pub(crate) static NUMBERING: [Case; 8] = [
 ];
 
 /// Clocks.
-pub(crate) static PAIRS: [Case; 14] = [
+pub(crate) static PAIRS: &[Case] = &[
     Case {
         name: "17 pairs, cut off behind the count",
         input: "4C3601 | 494E 010001 11",
@@ -251,7 +251,7 @@ pub(crate) static PAIRS: [Case; 14] = [
 ];
 
 /// Parents, sides and targets.
-pub(crate) static REFERENCES: [Case; 12] = [
+pub(crate) static REFERENCES: &[Case] = &[
     Case {
         name: "side 2",
         input: "4C3601 | 494E 010001 00 000000 02 00000041",
@@ -315,7 +315,7 @@ pub(crate) static REFERENCES: [Case; 12] = [
 ];
 
 /// Elements and run lengths.
-pub(crate) static ELEMENTS: [Case; 12] = [
+pub(crate) static ELEMENTS: &[Case] = &[
     Case {
         name: "characters at the edges",
         input: "4C3701 | 5255 010001 00 000000 01 04 00000000 0000D7FF 0000E000 0010FFFF",
@@ -379,7 +379,7 @@ pub(crate) static ELEMENTS: [Case; 12] = [
 ];
 
 /// Edits taken in, waiting and released.
-pub(crate) static TAKING_IN: [Case; 4] = [
+pub(crate) static TAKING_IN: &[Case] = &[
     Case {
         name: "run of a seventeenth editor with a bad element",
         input: "4C3701 | 494E 010001 00 000000 01 0000007A | 494E 020001 00 000000 01 0000007A | 494E 030001 00 000000 01 0000007A | 494E 040001 00 000000 01 0000007A | 494E 050001 00 000000 01 0000007A | 494E 060001 00 000000 01 0000007A | 494E 070001 00 000000 01 0000007A | 494E 080001 00 000000 01 0000007A | 494E 090001 00 000000 01 0000007A | 494E 0A0001 00 000000 01 0000007A | 494E 0B0001 00 000000 01 0000007A | 494E 0C0001 00 000000 01 0000007A | 494E 0D0001 00 000000 01 0000007A | 494E 0E0001 00 000000 01 0000007A | 494E 0F0001 00 000000 01 0000007A | 494E 100001 00 000000 01 0000007A | 5255 110001 00 000000 01 02 0000007A 0000D800",
@@ -403,7 +403,7 @@ pub(crate) static TAKING_IN: [Case; 4] = [
 ];
 
 /// Documents.
-pub(crate) static DOCUMENTS: [Case; 21] = [
+pub(crate) static DOCUMENTS: &[Case] = &[
     Case {
         name: "two editors type forward, unaware of each other",
         input: "4C3701 | 5255 020001 00 000000 01 02 00000058 00000059 | 5255 010001 00 000000 01 02 00000041 00000042",

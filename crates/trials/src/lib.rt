@@ -8,6 +8,7 @@ mod logs;
 #[cfg(test)]
 mod states;
 
+use hex::FromHexError;
 use merger::merged;
 use std::alloc::{AllocError, Global};
 
@@ -20,65 +21,25 @@ pub(crate) struct Case {
 }
 
 impl Case {
-    /// Whether the program prints what it should.
-    fn passes(&self, heap: Global) -> Result<bool, AllocError> {
-        match bytes_of(heap, self.input)? {
-            Some(input) => {
-                let printed = printed(heap, &input)?;
-                Ok(printed.as_slice() == self.prints.as_bytes())
-            }
-            None => Ok(false),
-        }
+    /// What the program prints of the input.
+    fn printed(&self, heap: Global) -> Result<String, FromHexError> {
+        let input = bytes_of(heap, self.input)?;
+        Ok(printed(heap, &input)?)
     }
 }
 
 /// What the program prints of an input: the table, or the line of a fault.
-fn printed(heap: Global, input: &[u8]) -> Result<Vec<u8>, AllocError> {
-    match merged(heap, input) {
-        Ok(table) => Ok(table),
-        Err(fault) => {
-            let line = fault.line(heap)?;
-            line.as_bytes().to_vec(heap)
-        }
-    }
+fn printed(heap: Global, input: &[u8]) -> Result<String, AllocError> {
+    merged(heap, input).or_else(|fault| fault.line(heap))
 }
 
-/// The bytes that a text of digits stands for. Blanks and bars between the digits stand for nothing; any other text is
-/// none.
-fn bytes_of(heap: Global, text: &str) -> Result<Option<Vec<u8>>, AllocError> {
-    let mut bytes = Vec::new(heap);
-    let mut high = None;
-    for c in text.as_bytes() {
-        if *c == b' ' || *c == b'|' {
-            continue;
-        }
-        let Some(digit) = digit_of(*c) else {
-            return Ok(None);
-        };
-        match high {
-            None => high = Some(digit),
-            Some(first) => {
-                bytes.push(joined(first, digit))?;
-                high = None;
-            }
-        }
-    }
-    match high {
-        None => Ok(Some(bytes)),
-        Some(_) => Ok(None),
-    }
-}
-
-fn digit_of(c: u8) -> Option<u8> {
-    match c {
-        b'0'..=b'9' => Some(c - b'0'),
-        b'A'..=b'F' => Some(c - b'A' + 10),
-        _ => None,
-    }
-}
-
-fn joined(high: u8, low: u8) -> u8 {
-    (high & 15) * 16 + (low & 15)
+/// The bytes that a text of digits stands for. Blanks and bars between the digits stand for nothing.
+fn bytes_of(heap: Global, text: &str) -> Result<Vec<u8>, FromHexError> {
+    let digits: String = text
+        .chars()
+        .filter(|c| !matches!(c, ' ' | '|'))
+        .collect(heap)?;
+    hex::decode(heap, digits)
 }
 
 #[cfg(test)]
@@ -88,50 +49,54 @@ mod tests {
     use std::process::Abort;
     use std::test::Fail;
 
-    fn all_pass(rt: &impl Abort, heap: Global, cases: &[Case]) -> Result<(), Fail> {
+    fn all_pass(rt: &(impl Abort + AllocGlobal), cases: &[Case]) -> Result<(), Fail> {
         for case in cases {
-            assert!(rt; case.passes(heap)?, "{}", case.name);
+            assert!(rt;
+                case.printed(rt.alloc())?.as_str() == case.prints,
+                "{}",
+                case.name
+            );
         }
         Ok(())
     }
 
     #[test]
     fn heads(rt: HostRuntime) -> Result<(), Fail> {
-        all_pass(&rt, rt.alloc(), &HEADS)
+        all_pass(&rt, HEADS)
     }
 
     #[test]
     fn extents(rt: HostRuntime) -> Result<(), Fail> {
-        all_pass(&rt, rt.alloc(), &EXTENTS)
+        all_pass(&rt, EXTENTS)
     }
 
     #[test]
     fn numbering(rt: HostRuntime) -> Result<(), Fail> {
-        all_pass(&rt, rt.alloc(), &NUMBERING)
+        all_pass(&rt, NUMBERING)
     }
 
     #[test]
     fn pairs(rt: HostRuntime) -> Result<(), Fail> {
-        all_pass(&rt, rt.alloc(), &PAIRS)
+        all_pass(&rt, PAIRS)
     }
 
     #[test]
     fn references(rt: HostRuntime) -> Result<(), Fail> {
-        all_pass(&rt, rt.alloc(), &REFERENCES)
+        all_pass(&rt, REFERENCES)
     }
 
     #[test]
     fn elements(rt: HostRuntime) -> Result<(), Fail> {
-        all_pass(&rt, rt.alloc(), &ELEMENTS)
+        all_pass(&rt, ELEMENTS)
     }
 
     #[test]
     fn taking_in(rt: HostRuntime) -> Result<(), Fail> {
-        all_pass(&rt, rt.alloc(), &TAKING_IN)
+        all_pass(&rt, TAKING_IN)
     }
 
     #[test]
     fn documents(rt: HostRuntime) -> Result<(), Fail> {
-        all_pass(&rt, rt.alloc(), &DOCUMENTS)
+        all_pass(&rt, DOCUMENTS)
     }
 }

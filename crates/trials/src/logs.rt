@@ -77,7 +77,7 @@ impl Log {
     }
 
     /// What the program prints of the log.
-    fn printed(&self, heap: Global) -> Result<Vec<u8>, AllocError> {
+    fn printed(&self, heap: Global) -> Result<String, AllocError> {
         printed(heap, &self.bytes)
     }
 }
@@ -109,14 +109,14 @@ mod tests {
     use std::process::Abort;
     use std::test::Fail;
 
-    fn prints(rt: &impl Abort, heap: Global, log: &Log, line: &[u8]) -> Result<(), Fail> {
-        let text = log.printed(heap)?;
-        assert!(rt; text.as_slice() == line);
+    fn prints(rt: &(impl Abort + AllocGlobal), log: &Log, line: &str) -> Result<(), Fail> {
+        let text = log.printed(rt.alloc())?;
+        assert!(rt; text.as_str() == line);
         Ok(())
     }
 
-    fn begins(rt: &impl Abort, heap: Global, log: &Log, line: &[u8]) -> Result<(), Fail> {
-        let text = log.printed(heap)?;
+    fn begins(rt: &(impl Abort + AllocGlobal), log: &Log, line: &str) -> Result<(), Fail> {
+        let text = log.printed(rt.alloc())?;
         assert!(rt; text.starts_with(line));
         Ok(())
     }
@@ -133,9 +133,8 @@ mod tests {
         let log = full(rt.alloc())?;
         begins(
             &rt,
-            rt.alloc(),
             &log,
-            b"shown 1024 tombstones 0\n1.1 00000061\n1.2 00000061\n",
+            "shown 1024 tombstones 0\n1.1 00000061\n1.2 00000061\n",
         )
     }
 
@@ -143,26 +142,21 @@ mod tests {
     fn no_slot_for_one_more(rt: HostRuntime) -> Result<(), Fail> {
         let mut log = full(rt.alloc())?;
         log.insertion(first_of(2), None, START)?;
-        prints(&rt, rt.alloc(), &log, b"fault 9 replica 2.1\n")
+        prints(&rt, &log, "fault 9 replica 2.1\n")
     }
 
     #[test]
     fn no_slot_for_one_that_would_wait(rt: HostRuntime) -> Result<(), Fail> {
         let mut log = full(rt.alloc())?;
         log.insertion(first_of(2), Some(counted(1025)), one(1025))?;
-        prints(&rt, rt.alloc(), &log, b"fault 9 replica 2.1\n")
+        prints(&rt, &log, "fault 9 replica 2.1\n")
     }
 
     #[test]
     fn full_slots_take_a_deletion(rt: HostRuntime) -> Result<(), Fail> {
         let mut log = full(rt.alloc())?;
         log.deletion(first_of(2), Some(counted(1024)), one(1))?;
-        begins(
-            &rt,
-            rt.alloc(),
-            &log,
-            b"shown 1023 tombstones 1\n1.2 00000061\n",
-        )
+        begins(&rt, &log, "shown 1023 tombstones 1\n1.2 00000061\n")
     }
 
     #[test]
@@ -170,7 +164,7 @@ mod tests {
         let mut log = full(rt.alloc())?;
         log.deletion(one(1025), Some(counted(1024)), one(1024))?;
         log.insertion(one(1026), Some(counted(1025)), one(1023))?;
-        prints(&rt, rt.alloc(), &log, b"fault 9 replica 1.1026\n")
+        prints(&rt, &log, "fault 9 replica 1.1026\n")
     }
 
     // 1,023 entries and one that waits leave no slot.
@@ -181,7 +175,7 @@ mod tests {
         log.run(one(961), Some(counted(960)), one(960), 63)?;
         log.insertion(first_of(2), Some(counted(2000)), START)?;
         log.insertion(first_of(3), None, START)?;
-        prints(&rt, rt.alloc(), &log, b"fault 9 replica 3.1\n")
+        prints(&rt, &log, "fault 9 replica 3.1\n")
     }
 
     // Editors 1 to 16 fill the roster; what is known stays known.
@@ -199,9 +193,8 @@ mod tests {
         let log = sixteen(rt.alloc())?;
         begins(
             &rt,
-            rt.alloc(),
             &log,
-            b"shown 16 tombstones 0\n1.1 00000061\n2.1 00000061\n",
+            "shown 16 tombstones 0\n1.1 00000061\n2.1 00000061\n",
         )
     }
 
@@ -209,7 +202,7 @@ mod tests {
     fn a_seventeenth_editor(rt: HostRuntime) -> Result<(), Fail> {
         let mut log = sixteen(rt.alloc())?;
         log.insertion(first_of(17), None, START)?;
-        prints(&rt, rt.alloc(), &log, b"fault 8 replica 17.1\n")
+        prints(&rt, &log, "fault 8 replica 17.1\n")
     }
 
     // The edits 1.2 to 1.65 wait for 1.1 and fill the shelf.
@@ -222,14 +215,14 @@ mod tests {
     #[test]
     fn sixty_four_wait(rt: HostRuntime) -> Result<(), Fail> {
         let log = waiting(rt.alloc())?;
-        prints(&rt, rt.alloc(), &log, b"fault 17 merge 1.2\n")
+        prints(&rt, &log, "fault 17 merge 1.2\n")
     }
 
     #[test]
     fn no_place_for_one_more_to_wait(rt: HostRuntime) -> Result<(), Fail> {
         let mut log = waiting(rt.alloc())?;
         log.insertion(one(66), Some(counted(65)), one(65))?;
-        prints(&rt, rt.alloc(), &log, b"fault 10 replica 1.66\n")
+        prints(&rt, &log, "fault 10 replica 1.66\n")
     }
 
     #[test]
@@ -238,9 +231,8 @@ mod tests {
         log.insertion(one(1), None, START)?;
         begins(
             &rt,
-            rt.alloc(),
             &log,
-            b"shown 65 tombstones 0\n1.1 00000061\n1.2 00000061\n",
+            "shown 65 tombstones 0\n1.1 00000061\n1.2 00000061\n",
         )
     }
 
@@ -248,14 +240,14 @@ mod tests {
     #[test]
     fn the_longest_input(rt: HostRuntime) -> Result<(), Fail> {
         let input = vec![in rt.alloc(); 0; 65_536]?;
-        assert!(rt; printed(rt.alloc(), &input)?.as_slice() == b"fault 16 merge 0\n".as_slice());
+        assert!(rt; printed(rt.alloc(), &input)?.as_str() == "fault 16 merge 0\n");
         Ok(())
     }
 
     #[test]
     fn one_byte_too_many(rt: HostRuntime) -> Result<(), Fail> {
         let input = vec![in rt.alloc(); 0; 65_537]?;
-        assert!(rt; printed(rt.alloc(), &input)?.as_slice() == b"fault 15 caller 0\n".as_slice());
+        assert!(rt; printed(rt.alloc(), &input)?.as_str() == "fault 15 caller 0\n");
         Ok(())
     }
 }

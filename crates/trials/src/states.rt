@@ -1,5 +1,5 @@
 //! Merges settled, opened again and settled once more, and merges that cannot be made.
-use edits::Id;
+use edits::{Fault, Id};
 use merger::{Gathering, Merge};
 use std::test::Fail;
 
@@ -14,14 +14,10 @@ const SECOND: &[u8] =
 fn a_settled_merge_opens_again(rt: HostRuntime) -> Result<(), Fail> {
     let mut merge = Merge::<char, Gathering>::new(rt.alloc(), 2, 1)?;
     merge.gather(FIRST)?;
-    let Ok(settled) = merge.settle() else {
-        return Err(Fail::new("an edit waits"));
-    };
+    let settled = merge.settle().map_err(Fault::from)?;
     let mut merge = settled.reopen();
     merge.gather(SECOND)?;
-    let Ok(settled) = merge.settle() else {
-        return Err(Fail::new("an edit waits"));
-    };
+    let settled = merge.settle().map_err(Fault::from)?;
     assert!(rt;
         settled
             .lookup(Id {
@@ -45,9 +41,29 @@ fn a_settled_merge_opens_again(rt: HostRuntime) -> Result<(), Fail> {
             .is_none()
     );
     let text = settled.show(rt.alloc())?;
-    assert!(rt;
-        text.as_slice() == b"shown 1 tombstones 1\n2.1 00000042\nclock 1:2 2:1\n".as_slice()
+    assert!(rt; text.as_str() == "shown 1 tombstones 1\n2.1 00000042\nclock 1:2 2:1\n");
+    Ok(())
+}
+
+#[test]
+fn an_unsettled_merge_goes_on(rt: HostRuntime) -> Result<(), Fail> {
+    let mut merge = Merge::<char, Gathering>::new(rt.alloc(), 2, 1)?;
+    merge.gather(SECOND)?;
+    let Err(unsettled) = merge.settle() else {
+        return Err(Fail::new("no edit waits"));
+    };
+    assert_eq!(rt;
+        unsettled.lowest,
+        Id {
+            editor: 1,
+            number: 2,
+        }
     );
+    let mut merge = unsettled.merge;
+    merge.gather(FIRST)?;
+    let settled = merge.settle().map_err(Fault::from)?;
+    let text = settled.show(rt.alloc())?;
+    assert!(rt; text.as_str() == "shown 1 tombstones 1\n2.1 00000042\nclock 1:2 2:1\n");
     Ok(())
 }
 

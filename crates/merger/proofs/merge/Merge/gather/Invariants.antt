@@ -1,5 +1,5 @@
 use Rattle.std.proofs.Common.{◌≡◌, ◌-◌, ◌≤◌, length}
-use Rattle.merger.proofs.merge.Merge.gather_all.Given as goal
+use Rattle.merger.proofs.merge.Merge.gather.Given as goal
 
 -- before the first part nothing has changed, and the slots stay as many
 abbrev pub invariant-loop-at : goal.invariant-loop-at
