@@ -4,17 +4,12 @@ ghost use Rattle.edits.specs.declared.fault.Fault.TheVariants.{NoMemory, Outside
 ghost use Rattle.tree.specs.Entries.{slots_allowed, entries_of, entry_at, names, shown_entry, hidden_at};
 
 use crate::index::Index;
+use crate::link::{Link, Siblings};
 use crate::node::{Entry, Node};
 use crate::tree::{MOST_SLOTS, Tree};
 use edits::{Fault, Id, Parent, Side};
 use std::alloc::Global;
-
-/// A place among siblings, between two of them.
-#[derive(Clone, Copy)]
-struct Gap {
-    before: Option<usize>,
-    after: Option<usize>,
-}
+use std::iter::successors;
 
 impl<E: Copy> Tree<E> {
     /// An empty tree with memory for as many entries as there are slots, 1 to 65,536 of them.
@@ -48,7 +43,7 @@ impl<E: Copy> Tree<E> {
         if self.nodes.len() >= self.slots {
             return Err(Fault::SlotsFull(id));
         }
-        self.hang(id, parent, side, element);
+        self.hang(id, Siblings { parent, side }, element);
         Ok(true)
     }
 
@@ -65,84 +60,74 @@ impl<E: Copy> Tree<E> {
         true
     }
 
-    /// Puts a new entry among the children of a slot, or among those of the start.
-    fn hang(&mut self, id: Id, parent: Option<usize>, side: Side, element: E)
+    /// Puts a new entry among its siblings.
+    fn hang(&mut self, id: Id, siblings: Siblings, element: E)
         requires { vec_len self.old.nodes < self.old.slots }
         ensures slots { self.new.slots ≡ self.old.slots }
         ensures entries { entries_of self.new.nodes.items ≡ entries_of self.old.nodes.items ++ (shown_entry id element ∷ []) }
         ensures len { vec_len self.new.nodes ≡ vec_len self.old.nodes + 1 }
     {
         let slot = self.nodes.len();
-        let gap = self.gap(parent, side, id);
+        let link = self.gap(siblings, id);
+        let next = self.follow(link);
         self.index.add(id, slot);
-        let node = Node {
+        self.nodes.push_reserved(Node {
             entry: Entry {
                 id,
                 element,
                 shown: true,
             },
-            parent,
-            side,
+            siblings,
             left: None,
             right: None,
-            next: gap.after,
-        };
-        self.nodes.push_reserved(node);
-        self.link(parent, side, gap.before, slot);
+            next,
+        });
+        self.set(link, slot);
     }
 
-    /// The first child of a slot on a side, or the first of those of the start.
-    fn first_child(&self, parent: Option<usize>, side: Side) -> Option<usize> {
-        let Some(slot) = parent else {
-            return self.first;
-        };
-        let node = self.nodes.get(slot)?;
-        match side {
-            Side::Left => node.left,
-            Side::Right => node.right,
+    /// The link where an identifier belongs among its siblings, which stand in ascending order.
+    fn gap(&self, siblings: Siblings, id: Id) -> Link {
+        let first = siblings.first();
+        successors(self.follow(first), |slot| self.follow(Link::Next(*slot)))
+            .take(self.nodes.len())
+            .take_while(|slot| self.entry(*slot).is_some_and(|entry| entry.id < id))
+            .last()
+            .map_or(first, Link::Next)
+    }
+
+    /// The slot that a link leads to.
+    pub(crate) fn follow(&self, link: Link) -> Option<usize> {
+        match link {
+            Link::First => self.first,
+            Link::Left(slot) => self.nodes.get(slot)?.left,
+            Link::Right(slot) => self.nodes.get(slot)?.right,
+            Link::Next(slot) => self.nodes.get(slot)?.next,
         }
     }
 
-    /// Where an identifier belongs among its siblings, which stand in ascending order.
-    fn gap(&self, parent: Option<usize>, side: Side, id: Id) -> Gap {
-        let mut before = None;
-        let mut after = self.first_child(parent, side);
-        for _ in 0..self.nodes.len() {
-            let Some(slot) = after else {
-                break;
-            };
-            let Some(node) = self.nodes.get(slot) else {
-                break;
-            };
-            if !node.entry.id.precedes(id) {
-                break;
-            }
-            before = after;
-            after = node.next;
-        }
-        Gap { before, after }
-    }
-
-    /// Sets the link behind a sibling, or else the link to the first child.
-    fn link(&mut self, parent: Option<usize>, side: Side, before: Option<usize>, to: usize)
+    /// Makes a link lead to a slot.
+    #[tactic(auto, using(crate::proofs::Entries::entries_kept, std::proofs::lemmas::List::get_or_default))]
+    fn set(&mut self, link: Link, to: usize)
         ensures slots { self.new.slots ≡ self.old.slots }
         ensures len { vec_len self.new.nodes ≡ vec_len self.old.nodes }
         ensures entries { entries_of self.new.nodes.items ≡ entries_of self.old.nodes.items }
     {
-        if let Some(slot) = before {
-            if slot < self.nodes.len() {
-                self.nodes[slot].next = Some(to);
+        match link {
+            Link::First => self.first = Some(to),
+            Link::Left(slot) => {
+                if let Some(node) = self.nodes.get_mut(slot) {
+                    node.left = Some(to);
+                }
             }
-            return;
-        }
-        let Some(slot) = parent else {
-            self.first = Some(to);
-            return;
-        };
-        if slot < self.nodes.len() {
-            match side {
-                Side::Left => self.nodes[slot].left = Some(to),
-                Side::Right => self.nodes[slot].right = Some(to),
+            Link::Right(slot) => {
+                if let Some(node) = self.nodes.get_mut(slot) {
+                    node.right = Some(to);
+                }
+            }
+            Link::Next(slot) => {
+                if let Some(node) = self.nodes.get_mut(slot) {
+                    node.next = Some(to);
+                }
             }
         }
     }

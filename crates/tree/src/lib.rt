@@ -4,6 +4,7 @@
 mod asking;
 mod growing;
 mod index;
+mod link;
 mod node;
 mod reading;
 mod readings;

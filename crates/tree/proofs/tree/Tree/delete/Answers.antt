@@ -8,8 +8,7 @@ returns g c =
     let n = c.index_mut.result.now in
     let hidden : Node g.row.E.Denot = record {
       entry = record { id = n.entry.id; element = n.entry.element; shown = false };
-      parent = n.parent;
-      side = n.side;
+      siblings = n.siblings;
       left = n.left;
       right = n.right;
       next = n.next;

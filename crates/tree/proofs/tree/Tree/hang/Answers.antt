@@ -9,5 +9,5 @@ returns g c =
     record {
       slots = search rules;
       len = search rules;
-      entries = c.link.ensures.entries ∙ ap entries_of c.push_reserved.ensures.items ∙ map-append (λ (n : Node g.row.E.Denot). n.entry) (vec_items c.args.self.now.nodes) (_ ∷ []);
+      entries = c.set.ensures.entries ∙ ap entries_of c.push_reserved.ensures.items ∙ map-append (λ (n : Node g.row.E.Denot). n.entry) (vec_items c.args.self.now.nodes) (_ ∷ []);
     }

@@ -1,0 +1,37 @@
+//! Where entries hang, and the links between them.
+ghost use Rattle.std.specs.Prelude.{◌≡◌};
+ghost use Rattle.tree.specs.Links.{first_link};
+
+use edits::Side;
+
+/// The entries that hang under one parent on one side.
+#[derive(Clone, Copy)]
+pub struct Siblings {
+    /// The slot of the parent; none under the start.
+    pub parent: Option<usize>,
+    pub side: Side,
+}
+
+/// A link of the tree, by where it is kept, and not by where it leads.
+#[derive(Clone, Copy)]
+pub enum Link {
+    /// To the first of the entries that hang under the start.
+    First,
+    /// Of a slot: to its first left child, to its first right child, to its next sibling.
+    Left(usize),
+    Right(usize),
+    Next(usize),
+}
+
+impl Siblings {
+    /// The link to the first of them.
+    pub(crate) fn first(self) -> Link
+        ensures { result ≡ first_link self }
+    {
+        match (self.parent, self.side) {
+            (None, _) => Link::First,
+            (Some(slot), Side::Left) => Link::Left(slot),
+            (Some(slot), Side::Right) => Link::Right(slot),
+        }
+    }
+}
