@@ -1,5 +1,8 @@
 //! The slots of identifiers.
-ghost use Rattle.std.specs.Prelude.{◌≡◌, ◌+◌, ◌<◌, ◌≤◌, [], IfOk, IfSome, HoldsAt, vec_len, vec_capacity, MatchResult};
+ghost use Rattle.std.specs.Prelude.{◌≡◌, ◌+◌, ◌<◌, ◌≤◌, [], IfOk, IfSome, vec_len, vec_capacity, MatchResult, Contains};
+ghost use Rattle.std.specs.List.{HoldsAt};
+ghost use Rattle.std.specs.List.Sorted.{IsSearchInRange};
+ghost use Rattle.tree.specs.Places.{GainsUnlessNamed};
 ghost use Rattle.edits.specs.declared.fault.Fault.TheVariants.{NoMemory};
 
 use edits::{Fault, Id};
@@ -33,7 +36,9 @@ impl Index {
     }
 
     /// The slot of the identifier, if it has one.
-    pub(crate) fn find(&self, id: Id) -> Option<usize> {
+    pub(crate) fn find(&self, id: Id) -> Option<usize>
+        ensures { IfSome result (λ slot. Contains self.now.places.items (record { id = id; slot = slot })) }
+    {
         let at = self.search(id).ok()?;
         Some(self.places[at].slot)
     }
@@ -43,6 +48,7 @@ impl Index {
         requires { vec_len self.old.places < self.old.most }
         ensures most { self.new.most ≡ self.old.most }
         ensures len { vec_len self.new.places ≤ vec_len self.old.places + 1 }
+        ensures places { GainsUnlessNamed self.old.places.items self.new.places.items (record { id = id; slot = slot }) }
     {
         if let Err(at) = self.search(id) {
             // Never refused: there is memory for every slot.
@@ -52,7 +58,8 @@ impl Index {
 
     /// Where the identifier is, or else where it belongs.
     fn search(&self, id: Id) -> Result<usize, usize>
-        ensures { MatchResult result (λ at. at < vec_len self.now.places) (λ at. at ≤ vec_len self.now.places) }
+        ensures within { IsSearchInRange result (vec_len self.now.places) }
+        ensures found { IfOk result (λ at. HoldsAt (λ place. place.id ≡ id) self.now.places.items at) }
     {
         self.places.binary_search_by_key(&id, |place| place.id)
     }
