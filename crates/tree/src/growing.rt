@@ -1,5 +1,5 @@
 //! Entries hung under each other and turned into tombstones.
-ghost use Rattle.std.specs.Prelude.{◌≡◌, ℕ, ◌+◌, ◌<◌, ◌≤◌, true, [], ◌∷◌, ◌++◌, if◌then◌else◌, vec_len, MatchBool, MatchResult};
+ghost use Rattle.std.specs.Prelude.{◌≡◌, ℕ, ◌+◌, ◌<◌, ◌≤◌, true, [], ◌∷◌, ◌++◌, if◌then◌else◌, IfSome, vec_len, MatchBool, MatchResult};
 ghost use Rattle.edits.specs.declared.fault.Fault.TheVariants.{NoMemory, OutsideLimits, SlotsFull};
 ghost use Rattle.tree.specs.Entries.{slots_allowed, entries_of, entry_at, names, shown_entry, hidden_at};
 
@@ -28,46 +28,20 @@ impl<E: Copy> Tree<E> {
     }
 
     /// Hangs a new entry under its parent on its side. Where the parent is no entry, nothing changes.
+    // That the number of slots stays relates two states, which no invariant of the type can say.
+    #[tactic(auto, using(crate::proofs::Entries::entries_gain))]
     pub fn insert(&mut self, id: Id, parent: Parent, side: Side, element: E) -> Result<bool, Fault>
         ensures slots { self.new.slots ≡ self.old.slots }
         ensures entries { MatchResult result (λ placed. entries_of self.new.nodes.items ≡ (if placed then entries_of self.old.nodes.items ++ (shown_entry id element ∷ []) else entries_of self.old.nodes.items)) (λ f. (f ≡ SlotsFull id) × (vec_len self.old.nodes ≡ self.old.slots) × (self.new.nodes.items ≡ self.old.nodes.items)) }
         ensures len { MatchResult result (λ placed. vec_len self.new.nodes ≡ vec_len self.old.nodes + (if placed then 1 else 0)) (λ _. vec_len self.new.nodes ≡ vec_len self.old.nodes) }
     {
-        let parent = match parent {
-            Parent::Start => None,
-            Parent::Entry(above) => match self.slot_of(above) {
-                Some(slot) => Some(slot),
-                None => return Ok(false),
-            },
+        let Some(siblings) = self.siblings(parent, side) else {
+            return Ok(false);
         };
-        if self.nodes.len() >= self.slots {
+        let slot = self.nodes.len();
+        if slot >= self.slots {
             return Err(Fault::SlotsFull(id));
         }
-        self.hang(id, Siblings { parent, side }, element);
-        Ok(true)
-    }
-
-    /// Turns an entry into a tombstone. Where the target is no entry, nothing changes.
-    pub fn delete(&mut self, target: Id) -> bool
-        ensures slots { self.new.slots ≡ self.old.slots }
-        ensures len { vec_len self.new.nodes ≡ vec_len self.old.nodes }
-        ensures entries { MatchBool result ((s : ℕ) × (names target (entry_at self.old.nodes.items s) ≡ true) × (entries_of self.new.nodes.items ≡ hidden_at s (entries_of self.old.nodes.items))) (entries_of self.new.nodes.items ≡ entries_of self.old.nodes.items) }
-    {
-        let Some(slot) = self.slot_of(target) else {
-            return false;
-        };
-        self.nodes[slot].entry.shown = false;
-        true
-    }
-
-    /// Puts a new entry among its siblings.
-    fn hang(&mut self, id: Id, siblings: Siblings, element: E)
-        requires { vec_len self.old.nodes < self.old.slots }
-        ensures slots { self.new.slots ≡ self.old.slots }
-        ensures entries { entries_of self.new.nodes.items ≡ entries_of self.old.nodes.items ++ (shown_entry id element ∷ []) }
-        ensures len { vec_len self.new.nodes ≡ vec_len self.old.nodes + 1 }
-    {
-        let slot = self.nodes.len();
         let link = self.gap(siblings, id);
         let next = self.follow(link);
         self.index.add(id, slot);
@@ -83,6 +57,32 @@ impl<E: Copy> Tree<E> {
             next,
         });
         self.set(link, slot);
+        Ok(true)
+    }
+
+    /// Turns an entry into a tombstone. Where the target is no entry, nothing changes.
+    #[tactic(auto, using(crate::proofs::Entries::entries_hidden, std::proofs::lemmas::List::get_or_default))]
+    pub fn delete(&mut self, target: Id) -> bool
+        ensures slots { self.new.slots ≡ self.old.slots }
+        ensures len { vec_len self.new.nodes ≡ vec_len self.old.nodes }
+        ensures entries { MatchBool result ((s : ℕ) × (names target (entry_at self.old.nodes.items s) ≡ true) × (entries_of self.new.nodes.items ≡ hidden_at s (entries_of self.old.nodes.items))) (entries_of self.new.nodes.items ≡ entries_of self.old.nodes.items) }
+    {
+        let Some(slot) = self.slot_of(target) else {
+            return false;
+        };
+        self.nodes[slot].entry.shown = false;
+        true
+    }
+
+    /// The entries under a parent on a side; none where the parent is no entry.
+    fn siblings(&self, parent: Parent, side: Side) -> Option<Siblings>
+        ensures { IfSome result (λ s. s.side ≡ side) }
+    {
+        let parent = match parent {
+            Parent::Start => None,
+            Parent::Entry(above) => Some(self.slot_of(above)?),
+        };
+        Some(Siblings { parent, side })
     }
 
     /// The link where an identifier belongs among its siblings, which stand in ascending order.
