@@ -1,6 +1,8 @@
 //! Entries hung under each other and turned into tombstones.
-ghost use Rattle.std.specs.Prelude.{◌≡◌, ℕ, ◌+◌, ◌<◌, ◌≤◌, true, [], ◌∷◌, ◌++◌, if◌then◌else◌, IfSome, vec_len, MatchBool, MatchResult};
+ghost use Rattle.std.specs.Prelude.{◌≡◌, ℕ, ◌+◌, ◌<◌, ◌≤◌, ◌≢◌, true, [], ◌∷◌, ◌++◌, if◌then◌else◌, IfSome, vec_len, MatchBool, MatchResult};
 ghost use Rattle.edits.specs.declared.fault.Fault.TheVariants.{NoMemory, OutsideLimits, SlotsFull};
+ghost use Rattle.tree.specs.declared.link.Link.{Link};
+ghost use Rattle.tree.specs.Links.{IsLinkOf, target};
 ghost use Rattle.tree.specs.Entries.{slots_allowed, entries_of, entry_at, names, shown_entry, hidden_at};
 
 use crate::index::Index;
@@ -96,7 +98,9 @@ impl<E: Copy> Tree<E> {
     }
 
     /// The slot that a link leads to.
-    pub(crate) fn follow(&self, link: Link) -> Option<usize> {
+    pub(crate) fn follow(&self, link: Link) -> Option<usize>
+        ensures { result ≡ target self.now.first self.now.nodes.items link }
+    {
         match link {
             Link::First => self.first,
             Link::Left(slot) => self.nodes.get(slot)?.left,
@@ -111,6 +115,8 @@ impl<E: Copy> Tree<E> {
         ensures slots { self.new.slots ≡ self.old.slots }
         ensures len { vec_len self.new.nodes ≡ vec_len self.old.nodes }
         ensures entries { entries_of self.new.nodes.items ≡ entries_of self.old.nodes.items }
+        ensures leads { IsLinkOf (vec_len self.old.nodes) link → target self.new.first self.new.nodes.items link ≡ Some to }
+        ensures others { (other : Link) → other ≢ link → target self.new.first self.new.nodes.items other ≡ target self.old.first self.old.nodes.items other }
     {
         match link {
             Link::First => self.first = Some(to),
