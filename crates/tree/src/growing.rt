@@ -18,7 +18,7 @@ impl<E: Copy> Tree<E> {
     pub fn new(heap: Global, slots: usize) -> Result<Tree<E>, Fault>
         ensures { MatchResult result (λ t. (t.slots ≡ slots) × (t.nodes.items ≡ []) × (slots_allowed slots ≡ true)) (λ f. f ≡ (if slots_allowed slots then NoMemory else OutsideLimits)) }
     {
-        if slots < 1 || slots > MOST_SLOTS {
+        if !(1..=MOST_SLOTS).contains(&slots) {
             return Err(Fault::OutsideLimits);
         }
         Ok(Tree {

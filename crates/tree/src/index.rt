@@ -1,8 +1,8 @@
 //! The slots of identifiers.
-ghost use Rattle.std.specs.Prelude.{◌≡◌, ◌+◌, ◌<◌, ◌≤◌, [], IfOk, IfSome, vec_len, vec_capacity, MatchResult, Contains};
+ghost use Rattle.std.specs.Prelude.{◌≡◌, ◌+◌, ◌<◌, ◌≤◌, [], IfOk, IfErr, vec_len, vec_capacity, MatchOption, MatchResult, Contains, All, ◌≢◌};
 ghost use Rattle.std.specs.List.{HoldsAt};
 ghost use Rattle.std.specs.List.Sorted.{IsSearchInRange};
-ghost use Rattle.tree.specs.Places.{GainsUnlessNamed};
+ghost use Rattle.tree.specs.Places.{GainsUnlessNamed, IsAscending, IsGapFor};
 ghost use Rattle.edits.specs.declared.fault.Fault.TheVariants.{NoMemory};
 
 use edits::{Fault, Id};
@@ -22,6 +22,7 @@ pub struct Index {
     pub(crate) most: usize,
     pub(crate) places: Vec<Place>,
     ghost reserved: { most ≤ vec_capacity places },
+    ghost ascending: { IsAscending places.items },
 }
 
 impl Index {
@@ -37,7 +38,7 @@ impl Index {
 
     /// The slot of the identifier, if it has one.
     pub(crate) fn find(&self, id: Id) -> Option<usize>
-        ensures { IfSome result (λ slot. Contains self.now.places.items (record { id = id; slot = slot })) }
+        ensures { MatchOption result (All (λ place. place.id ≢ id) self.now.places.items) (λ slot. Contains self.now.places.items (record { id = id; slot = slot })) }
     {
         let at = self.search(id).ok()?;
         Some(self.places[at].slot)
@@ -60,6 +61,7 @@ impl Index {
     fn search(&self, id: Id) -> Result<usize, usize>
         ensures within { IsSearchInRange result (vec_len self.now.places) }
         ensures found { IfOk result (λ at. HoldsAt (λ place. place.id ≡ id) self.now.places.items at) }
+        ensures gap { IfErr result (IsGapFor id self.now.places.items) }
     {
         self.places.binary_search_by_key(&id, |place| place.id)
     }
