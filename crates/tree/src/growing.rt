@@ -1,17 +1,15 @@
 //! Entries hung under each other and turned into tombstones.
 ghost use Rattle.std.specs.Prelude.{◌≡◌, ℕ, ◌+◌, ◌<◌, ◌≤◌, ◌≢◌, true, [], ◌∷◌, ◌++◌, if◌then◌else◌, IfSome, vec_len, MatchBool, MatchResult};
 ghost use Rattle.edits.specs.declared.fault.Fault.TheVariants.{NoMemory, OutsideLimits, SlotsFull};
-ghost use Rattle.tree.specs.declared.link.Link.{Link};
-ghost use Rattle.tree.specs.Links.{IsLinkOf, target};
+ghost use Rattle.tree.specs.Links.{IsParentSlot};
 ghost use Rattle.tree.specs.Entries.{slots_allowed, entries_of, entry_at, names, shown_entry, hidden_at};
 
 use crate::index::Index;
-use crate::link::{Link, Siblings};
+use crate::link::Siblings;
 use crate::node::{Entry, Node};
 use crate::tree::{MOST_SLOTS, Tree};
 use edits::{Fault, Id, Parent, Side};
 use std::alloc::Global;
-use std::iter::successors;
 
 impl<E: Copy> Tree<E> {
     /// An empty tree with memory for as many entries as there are slots, 1 to 65,536 of them.
@@ -78,63 +76,13 @@ impl<E: Copy> Tree<E> {
 
     /// The entries under a parent on a side; none where the parent is no entry.
     fn siblings(&self, parent: Parent, side: Side) -> Option<Siblings>
-        ensures { IfSome result (λ s. s.side ≡ side) }
+        ensures parent { IfSome result (λ s. IsParentSlot self.now.nodes.items parent s.parent) }
+        ensures side { IfSome result (λ s. s.side ≡ side) }
     {
         let parent = match parent {
             Parent::Start => None,
             Parent::Entry(above) => Some(self.slot_of(above)?),
         };
         Some(Siblings { parent, side })
-    }
-
-    /// The link where an identifier belongs among its siblings, which stand in ascending order.
-    fn gap(&self, siblings: Siblings, id: Id) -> Link {
-        let first = siblings.first();
-        successors(self.follow(first), |slot| self.follow(Link::Next(*slot)))
-            .take(self.nodes.len())
-            .take_while(|slot| self.entry(*slot).is_some_and(|entry| entry.id < id))
-            .last()
-            .map_or(first, Link::Next)
-    }
-
-    /// The slot that a link leads to.
-    pub(crate) fn follow(&self, link: Link) -> Option<usize>
-        ensures { result ≡ target self.now.first self.now.nodes.items link }
-    {
-        match link {
-            Link::First => self.first,
-            Link::Left(slot) => self.nodes.get(slot)?.left,
-            Link::Right(slot) => self.nodes.get(slot)?.right,
-            Link::Next(slot) => self.nodes.get(slot)?.next,
-        }
-    }
-
-    /// Makes a link lead to a slot.
-    #[tactic(auto, using(crate::proofs::Entries::entries_kept, std::proofs::lemmas::List::get_or_default))]
-    fn set(&mut self, link: Link, to: usize)
-        ensures slots { self.new.slots ≡ self.old.slots }
-        ensures len { vec_len self.new.nodes ≡ vec_len self.old.nodes }
-        ensures entries { entries_of self.new.nodes.items ≡ entries_of self.old.nodes.items }
-        ensures leads { IsLinkOf (vec_len self.old.nodes) link → target self.new.first self.new.nodes.items link ≡ Some to }
-        ensures others { (other : Link) → other ≢ link → target self.new.first self.new.nodes.items other ≡ target self.old.first self.old.nodes.items other }
-    {
-        match link {
-            Link::First => self.first = Some(to),
-            Link::Left(slot) => {
-                if let Some(node) = self.nodes.get_mut(slot) {
-                    node.left = Some(to);
-                }
-            }
-            Link::Right(slot) => {
-                if let Some(node) = self.nodes.get_mut(slot) {
-                    node.right = Some(to);
-                }
-            }
-            Link::Next(slot) => {
-                if let Some(node) = self.nodes.get_mut(slot) {
-                    node.next = Some(to);
-                }
-            }
-        }
     }
 }

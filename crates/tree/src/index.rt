@@ -15,8 +15,8 @@ pub struct Place {
     pub slot: usize,
 }
 
-/// The places of identifiers in ascending order, with memory for as many as asked for. A `BTreeMap` asks for memory at
-/// insertions, and a `HashMap` may look at every entry for one identifier.
+/// The places of identifiers in ascending order, with memory for as many as asked for.
+// No map: a `BTreeMap` asks for memory at insertions, and a `HashMap` may look at every entry for one identifier.
 #[derive(Drop)]
 pub struct Index {
     pub(crate) most: usize,

@@ -5,6 +5,7 @@ mod asking;
 mod growing;
 mod index;
 mod link;
+mod links;
 mod node;
 mod reading;
 mod readings;

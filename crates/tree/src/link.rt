@@ -1,7 +1,4 @@
 //! Where entries hang, and the links between them.
-ghost use Rattle.std.specs.Prelude.{◌≡◌};
-ghost use Rattle.tree.specs.Links.{first_link};
-
 use edits::Side;
 
 /// The entries that hang under one parent on one side.
@@ -21,17 +18,4 @@ pub enum Link {
     Left(usize),
     Right(usize),
     Next(usize),
-}
-
-impl Siblings {
-    /// The link to the first of them.
-    pub(crate) fn first(self) -> Link
-        ensures { result ≡ first_link self }
-    {
-        match (self.parent, self.side) {
-            (None, _) => Link::First,
-            (Some(slot), Side::Left) => Link::Left(slot),
-            (Some(slot), Side::Right) => Link::Right(slot),
-        }
-    }
 }

@@ -12,8 +12,7 @@ pub struct Entry<E> {
 }
 
 /// An entry and its links. A slot is an entry's place in the order of arrival, counted from 0.
-/// The links are slots, and not boxes: memory for all nodes is asked for in one piece when the tree is made, and no
-/// function calls itself as deep as the document.
+// Slots and no boxes: memory for all nodes is asked for at the making, and nothing calls itself as deep as the document.
 #[derive(Clone, Copy)]
 pub struct Node<E> {
     pub entry: Entry<E>,

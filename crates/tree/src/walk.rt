@@ -1,4 +1,5 @@
-//! The entries in reading order, found by links: no stack, no recursion.
+//! The entries in reading order, found by links: no stack, no recursion. No walk takes more steps than there are
+//! entries, which ends it whatever the links are.
 ghost use Rattle.std.specs.Prelude.{◌≡◌, ◌<◌, ◌≤◌, vec_len, MatchResult, OnOk};
 ghost use Rattle.edits.specs.declared.fault.Fault.TheVariants.{WrongSize};
 
@@ -40,10 +41,10 @@ impl<E: Copy> Tree<E> {
         ensures most { reading.new.most ≡ reading.old.most }
         ensures len { OnOk result (vec_len reading.new.order ≤ vec_len self.now.nodes) }
     {
-        if self.nodes.len() > reading.most {
+        let entries = self.nodes.len();
+        if entries > reading.most {
             return Err(Fault::WrongSize);
         }
-        let entries = self.nodes.len();
         let first = self.first.map(|slot| self.leftmost(slot));
         reading.fill(
             entries,
