@@ -1,5 +1,5 @@
 -- The entries of a tree, in the order of their arrival.
-use Rattle.std.specs.Prelude.{ℕ, zero, suc, Bool, true, false, ◌&&◌, List, [], ◌∷◌, map, Some, None, Option, nat_le}
+use Rattle.std.specs.Prelude.{ℕ, zero, suc, Bool, true, false, ◌&&◌, List, [], ◌∷◌, map, Some, None, Option, nat_le, slice_get}
 use Rattle.edits.specs.declared.id.Id.{Id}
 use Rattle.edits.specs.Ids.{same}
 use Rattle.tree.specs.declared.node.Entry.{Entry}
@@ -14,9 +14,7 @@ entries_of nodes = map (λ n. n.entry) nodes
 
 -- the entry in a slot, if there is one
 abbrev pub entry_at : {E : Type 0} → List (Node E) → ℕ → Option (Entry E)
-entry_at [] slot = None
-entry_at (n ∷ nodes) zero = Some n.entry
-entry_at (n ∷ nodes) (suc slot) = entry_at nodes slot
+entry_at nodes slot = slice_get (entries_of nodes) slot
 
 -- an entry with the identifier
 abbrev pub names : {E : Type 0} → Id → Option (Entry E) → Bool

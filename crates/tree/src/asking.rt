@@ -25,11 +25,7 @@ impl<E: Copy> Tree<E> {
     pub fn entry(&self, slot: usize) -> Option<Entry<E>>
         ensures { result ≡ entry_at self.now.nodes.items slot }
     {
-        if slot < self.len() {
-            Some(self.nodes[slot].entry)
-        } else {
-            None
-        }
+        self.nodes.get(slot).map(|node| node.entry)
     }
 
     /// The slot of an entry.
@@ -38,10 +34,7 @@ impl<E: Copy> Tree<E> {
         ensures within { IfSome result (λ s. s < vec_len self.now.nodes) }
     {
         let slot = self.index.find(id)?;
-        if slot < self.len() && self.nodes[slot].entry.id.is(id) {
-            Some(slot)
-        } else {
-            None
-        }
+        let entry = self.entry(slot)?;
+        (entry.id == id).then_some(slot)
     }
 }

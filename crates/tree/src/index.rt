@@ -1,51 +1,68 @@
 //! The slots of identifiers.
-ghost use Rattle.std.specs.Prelude.{◌≡◌, ◌+◌, ◌<◌, ◌≤◌, vec_len, vec_capacity, MatchResult};
+ghost use Rattle.std.specs.Prelude.{◌≡◌, ◌+◌, ◌<◌, ◌≤◌, [], IfOk, IfErr, vec_len, vec_capacity, MatchOption, MatchResult, Contains, All, ◌≢◌};
+ghost use Rattle.std.specs.List.{HoldsAt};
+ghost use Rattle.std.specs.List.Sorted.{IsSearchInRange};
+ghost use Rattle.tree.specs.Places.{GainsUnlessNamed, IsAscending, IsGapFor};
 ghost use Rattle.edits.specs.declared.fault.Fault.TheVariants.{NoMemory};
 
 use edits::{Fault, Id};
 use std::alloc::Global;
 
-/// Identifiers in ascending order, and the slot of each at the same place, with memory for as many as asked for.
+/// An identifier and the slot of its entry.
+#[derive(Clone, Copy)]
+pub struct Place {
+    pub id: Id,
+    pub slot: usize,
+}
+
+/// The places of identifiers in ascending order, with memory for as many as asked for.
+// No map: a `BTreeMap` asks for memory at insertions, and a `HashMap` may look at every entry for one identifier.
 #[derive(Drop)]
 pub struct Index {
     pub(crate) most: usize,
-    pub(crate) ids: Vec<Id>,
-    pub(crate) slots: Vec<usize>,
-    ghost even: { vec_len slots ≡ vec_len ids },
-    ghost reserved: { most ≤ vec_capacity ids },
-    ghost held: { most ≤ vec_capacity slots },
+    pub(crate) places: Vec<Place>,
+    ghost reserved: { most ≤ vec_capacity places },
+    ghost ascending: { IsAscending places.items },
 }
 
 impl Index {
     /// An empty index.
     pub(crate) fn new(heap: Global, most: usize) -> Result<Index, Fault>
-        ensures { MatchResult result (λ x. (x.most ≡ most) × (vec_len x.ids ≡ 0)) (λ f. f ≡ NoMemory) }
+        ensures { MatchResult result (λ x. (x.most ≡ most) × (x.places.items ≡ [])) (λ f. f ≡ NoMemory) }
     {
         Ok(Index {
             most,
-            ids: Vec::with_capacity(heap, most)?,
-            slots: Vec::with_capacity(heap, most)?,
+            places: Vec::with_capacity(heap, most)?,
         })
     }
 
     /// The slot of the identifier, if it has one.
-    pub(crate) fn find(&self, id: Id) -> Option<usize> {
-        match self.ids.binary_search(&id) {
-            Ok(i) => Some(self.slots[i]),
-            Err(_) => None,
-        }
+    pub(crate) fn find(&self, id: Id) -> Option<usize>
+        ensures { MatchOption result (All (λ place. place.id ≢ id) self.now.places.items) (λ slot. Contains self.now.places.items (record { id = id; slot = slot })) }
+    {
+        let at = self.search(id).ok()?;
+        Some(self.places[at].slot)
     }
 
     /// Puts a new identifier in its place.
     pub(crate) fn add(&mut self, id: Id, slot: usize)
-        requires { vec_len self.old.ids < self.old.most }
+        requires { vec_len self.old.places < self.old.most }
         ensures most { self.new.most ≡ self.old.most }
-        ensures len { vec_len self.new.ids ≤ vec_len self.old.ids + 1 }
+        ensures len { vec_len self.new.places ≤ vec_len self.old.places + 1 }
+        ensures places { GainsUnlessNamed self.old.places.items self.new.places.items (record { id = id; slot = slot }) }
     {
-        if let Err(i) = self.ids.binary_search(&id) {
+        if let Err(at) = self.search(id) {
             // Never refused: there is memory for every slot.
-            let _ = self.ids.insert(i, id);
-            let _ = self.slots.insert(i, slot);
+            let _ = self.places.insert(at, Place { id, slot });
         }
+    }
+
+    /// Where the identifier is, or else where it belongs.
+    fn search(&self, id: Id) -> Result<usize, usize>
+        ensures within { IsSearchInRange result (vec_len self.now.places) }
+        ensures found { IfOk result (λ at. HoldsAt (λ place. place.id ≡ id) self.now.places.items at) }
+        ensures gap { IfErr result (IsGapFor id self.now.places.items) }
+    {
+        self.places.binary_search_by_key(&id, |place| place.id)
     }
 }

@@ -4,6 +4,8 @@
 mod asking;
 mod growing;
 mod index;
+mod link;
+mod links;
 mod node;
 mod reading;
 mod readings;

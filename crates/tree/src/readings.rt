@@ -1,5 +1,6 @@
 //! Readings made, filled and asked.
 ghost use Rattle.std.specs.Prelude.{◌≡◌, ◌+◌, ◌<◌, ◌≤◌, [], ◌∷◌, ◌++◌, if◌then◌else◌, None, vec_len, MatchResult, slice_index_or};
+ghost use Rattle.std.specs.Iterator.{UpTo};
 ghost use Rattle.edits.specs.declared.fault.Fault.TheVariants.{NoMemory};
 
 use crate::reading::Reading;
@@ -37,11 +38,7 @@ impl Reading {
     pub fn index_of(&self, slot: usize) -> Option<usize>
         ensures { result ≡ slice_index_or self.now.indexes.items slot None }
     {
-        if slot < self.indexes.len() {
-            self.indexes[slot]
-        } else {
-            None
-        }
+        self.indexes.get(slot).copied().flatten()
     }
 
     /// Forgets what was read, and is ready for as many entries.
@@ -54,8 +51,25 @@ impl Reading {
         self.order.clear();
         self.indexes.clear();
         self.shown = 0;
-        for _ in 0..entries {
-            self.indexes.push_reserved(None);
+        // Never refused: there is memory for as many.
+        let _ = self.indexes.resize(entries, None);
+    }
+
+    /// Lists slots in place of what was read before, each with whether its entry is shown.
+    pub(crate) fn fill<I: Iterator<Item = (usize, bool)> + Drop>(
+        &mut self,
+        entries: usize,
+        slots: I,
+    )
+        requires room { entries ≤ self.old.most }
+        requires can { I.can_next slots }
+        requires few { UpTo (I.remaining slots) entries }
+        ensures most { self.new.most ≡ self.old.most }
+        ensures len { vec_len self.new.order ≤ entries }
+    {
+        self.restart(entries);
+        for (slot, shown) in slots {
+            self.add(slot, shown);
         }
     }
 
@@ -71,8 +85,8 @@ impl Reading {
     {
         self.order.push_reserved(at);
         if shown {
-            if at < self.indexes.len() {
-                self.indexes[at] = Some(self.shown);
+            if let Some(index) = self.indexes.get_mut(at) {
+                *index = Some(self.shown);
             }
             self.shown += 1;
         }

@@ -17,6 +17,6 @@ pub struct Tree<E: Copy> {
     pub(crate) index: Index,
     ghost reserved: { slots ≤ vec_capacity nodes },
     ghost within: { vec_len nodes ≤ slots },
-    ghost indexed: { vec_len index.ids ≤ vec_len nodes },
+    ghost indexed: { vec_len index.places ≤ vec_len nodes },
     ghost even: { index.most ≡ slots },
 }

@@ -1,47 +1,38 @@
-//! The entries in reading order, found by links: no stack, no recursion.
+//! The entries in reading order, found by links: no stack, no recursion. No walk takes more steps than there are
+//! entries, which ends it whatever the links are.
 ghost use Rattle.std.specs.Prelude.{◌≡◌, ◌<◌, ◌≤◌, vec_len, MatchResult, OnOk};
 ghost use Rattle.edits.specs.declared.fault.Fault.TheVariants.{WrongSize};
 
+use crate::link::Link;
 use crate::reading::Reading;
 use crate::tree::Tree;
 use edits::{Fault, Side};
+use std::iter::successors;
 
 impl<E: Copy> Tree<E> {
     /// The slot at the end of the left links: what is read first of an entry and all below it.
     fn leftmost(&self, slot: usize) -> usize {
-        let mut at = slot;
-        for _ in 0..self.nodes.len() {
-            let Some(node) = self.nodes.get(at) else {
-                break;
-            };
-            let Some(left) = node.left else {
-                break;
-            };
-            at = left;
-        }
-        at
+        successors(Some(slot), |at| self.follow(Link::Left(*at)))
+            .take(self.nodes.len())
+            .last()
+            .unwrap_or(slot)
     }
 
     /// The slot that is read after a slot: the first of its right children, or else of its next sibling, or else its
     /// parent if it is a left child, or else what follows the parent likewise.
     fn after(&self, slot: usize) -> Option<usize> {
-        let node = self.nodes.get(slot)?;
-        if let Some(right) = node.right {
+        if let Some(right) = self.follow(Link::Right(slot)) {
             return Some(self.leftmost(right));
         }
-        let mut at = slot;
-        for _ in 0..self.nodes.len() {
-            let node = self.nodes.get(at)?;
-            if let Some(next) = node.next {
-                return Some(self.leftmost(next));
-            }
-            let parent = node.parent?;
-            match node.side {
-                Side::Left => return Some(parent),
-                Side::Right => at = parent,
-            }
+        let node = successors(self.nodes.get(slot), |node| {
+            self.nodes.get(node.siblings.parent?)
+        })
+        .take(self.nodes.len())
+        .find(|node| node.next.is_some() || node.siblings.side == Side::Left)?;
+        match node.next {
+            Some(next) => Some(self.leftmost(next)),
+            None => node.siblings.parent,
         }
-        None
     }
 
     /// Lists the entries in reading order. A reading with too little memory is the caller's fault, and stays as it is.
@@ -50,24 +41,17 @@ impl<E: Copy> Tree<E> {
         ensures most { reading.new.most ≡ reading.old.most }
         ensures len { OnOk result (vec_len reading.new.order ≤ vec_len self.now.nodes) }
     {
-        if self.nodes.len() > reading.most {
+        let entries = self.nodes.len();
+        if entries > reading.most {
             return Err(Fault::WrongSize);
         }
-        reading.restart(self.nodes.len());
-        let Some(first) = self.first else {
-            return Ok(());
-        };
-        let mut at = self.leftmost(first);
-        for _ in 0..self.nodes.len() {
-            let Some(node) = self.nodes.get(at) else {
-                break;
-            };
-            reading.add(at, node.entry.shown);
-            match self.after(at) {
-                Some(next) => at = next,
-                None => break,
-            }
-        }
+        let first = self.first.map(|slot| self.leftmost(slot));
+        reading.fill(
+            entries,
+            successors(first, |at| self.after(*at))
+                .take(entries)
+                .filter_map(|slot| Some((slot, self.entry(slot)?.shown))),
+        );
         Ok(())
     }
 }
