@@ -38,7 +38,7 @@ name_at s at =
     (two_at s (at + 1) then (λ n. cond (nat_lt 0 n) (Ok (record { editor = e; number = n })) (Err (Numbering (at + 1)))))
     (Err (Numbering at)))
 
--- a pair whose editor is above low
+-- a pair whose editor is above low, and whose count is not 0
 abbrev pub pair_at : ℕ → List ℕ → ℕ → Result Pair Fault
 pair_at low s at =
     byte_at s at then (λ e. two_at s (at + 1) then (λ c. cond (nat_lt low e && nat_lt 0 c) (Ok (record { editor = e; count = c })) (Err (Pairs at))))

@@ -1,6 +1,7 @@
 //! Records.
 use edits::{Clock, Id, Parent, Side};
 
+// The fields are plain ones, no `Placement` or `Removal`: a caller may put any together, and `edit` answers for all.
 /// A record that was read. Its element bytes are the input's own, from `offset` on.
 #[derive(Clone, Copy)]
 pub enum Record<'a> {
