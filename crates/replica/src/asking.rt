@@ -2,6 +2,7 @@
 ghost use Rattle.std.specs.Prelude.{◌≡◌, ◌<◌, ◌≤◌, true, IfSome, None, MatchResult};
 ghost use Rattle.edits.specs.declared.fault.Fault.TheVariants.{WrongSize};
 ghost use Rattle.tree.specs.Entries.{entry_at, names};
+ghost use Rattle.tree.specs.Lookups.{slot_of};
 ghost use Rattle.replica.specs.Shelves.{lowest_from};
 ghost use Rattle.replica.specs.Taking.{roster_of, shelf_of, entries_in};
 
@@ -40,7 +41,8 @@ impl<E: Copy> Replica<E> {
 
     /// The slot of an identifier.
     pub fn slot_of(&self, id: Id) -> Option<usize>
-        ensures { IfSome result (λ s. names id (entry_at self.now.tree.nodes.items s) ≡ true) }
+        ensures value { result ≡ slot_of self.now.tree id }
+        ensures found { IfSome result (λ s. names id (entry_at self.now.tree.nodes.items s) ≡ true) }
     {
         self.tree.slot_of(id)
     }

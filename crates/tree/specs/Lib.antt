@@ -1,3 +1,4 @@
 pub mod Entries
 pub mod Links
 pub mod Places
+pub mod Lookups

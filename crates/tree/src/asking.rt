@@ -1,6 +1,7 @@
 //! What a tree holds.
 ghost use Rattle.std.specs.Prelude.{◌≡◌, ◌<◌, true, IfSome, vec_len};
 ghost use Rattle.tree.specs.Entries.{entry_at, names};
+ghost use Rattle.tree.specs.Lookups.{slot_of};
 
 use crate::node::Entry;
 use crate::tree::Tree;
@@ -30,6 +31,7 @@ impl<E: Copy> Tree<E> {
 
     /// The slot of an entry.
     pub fn slot_of(&self, id: Id) -> Option<usize>
+        ensures value { result ≡ slot_of self.now id }
         ensures found { IfSome result (λ s. names id (entry_at self.now.nodes.items s) ≡ true) }
         ensures within { IfSome result (λ s. s < vec_len self.now.nodes) }
     {

@@ -26,6 +26,8 @@ pub struct Index {
 }
 
 impl Index {
+    ghost use Rattle.tree.specs.Lookups.{listed_slot};
+
     /// An empty index.
     pub(crate) fn new(heap: Global, most: usize) -> Result<Index, Fault>
         ensures { MatchResult result (λ x. (x.most ≡ most) × (x.places.items ≡ [])) (λ f. f ≡ NoMemory) }
@@ -38,10 +40,13 @@ impl Index {
 
     /// The slot of the identifier, if it has one.
     pub(crate) fn find(&self, id: Id) -> Option<usize>
-        ensures { MatchOption result (All (λ place. place.id ≢ id) self.now.places.items) (λ slot. Contains self.now.places.items (record { id = id; slot = slot })) }
+        ensures value { result ≡ listed_slot self.now.places.items id }
+        ensures listed { MatchOption result (All (λ place. place.id ≢ id) self.now.places.items) (λ slot. Contains self.now.places.items (record { id = id; slot = slot })) }
     {
-        let at = self.search(id).ok()?;
-        Some(self.places[at].slot)
+        match self.search(id) {
+            Ok(at) => Some(self.places[at].slot),
+            Err(_) => None,
+        }
     }
 
     /// Puts a new identifier in its place.
