@@ -18,7 +18,7 @@ fn main(rt: HostRuntime) -> anyhow::Result<ExitCode> {
             Ok(ExitCode::SUCCESS)
         }
         Err(fault) => {
-            rt.println(fault)?;
+            rt.print(fault.line(heap)?)?;
             Ok(ExitCode::FAILURE)
         }
     }

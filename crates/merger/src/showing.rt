@@ -3,7 +3,7 @@ ghost use Rattle.std.specs.Prelude.{◌≡◌, ℕ, true, IfSome, Some, None, Ma
 ghost use Rattle.digits.specs.Hex.{hex_text};
 ghost use Rattle.edits.specs.declared.fault.Fault.TheVariants.{NoMemory};
 ghost use Rattle.tree.specs.Entries.{entry_at, names};
-ghost use Rattle.merger.specs.Lines.{entry_line, entry_lines, pairs_text, table_text};
+ghost use Rattle.merger.specs.Lines.{index_of, entry_line, entry_lines, pairs_text, table_text};
 
 use crate::merge::{Merge, State};
 use digits::pair;
@@ -18,10 +18,10 @@ impl<K: Kind, S: State> Merge<K, S> {
     /// The index at which an entry is shown; none for a tombstone and for what is no entry.
     pub fn lookup(&self, id: Id) -> Option<usize>
         requires { S.State.settled ≡ true }
-        ensures { IfSome result (λ i. (s : ℕ) × (names id (entry_at self.now.replica.tree.nodes.items s) ≡ true) × (slice_index_or self.now.reading.indexes.items s None ≡ Some i)) }
+        ensures value { result ≡ index_of self.now.replica self.now.reading id }
+        ensures shown { IfSome result (λ i. (s : ℕ) × (names id (entry_at self.now.replica.tree.nodes.items s) ≡ true) × (slice_index_or self.now.reading.indexes.items s None ≡ Some i)) }
     {
-        let slot = self.replica.slot_of(id)?;
-        self.reading.index_of(slot)
+        self.lines().lookup(id)
     }
 
     /// The table: a line with the counts, a line for each shown entry in reading order, a line with the clock.
@@ -31,12 +31,19 @@ impl<K: Kind, S: State> Merge<K, S> {
     {
         let shown = self.reading.shown();
         let tombstones = self.replica.entries().saturating_sub(shown);
-        let lines = Lines {
-            replica: &self.replica,
-            reading: &self.reading,
-        };
+        let lines = self.lines();
         let counts = Counts(self.replica.counts());
         Ok(format!(in heap; "shown {shown} tombstones {tombstones}\n{lines}clock{counts}\n")?)
+    }
+
+    /// The lines of the shown entries.
+    fn lines(&self) -> Lines<'_, K>
+        ensures { (result.replica.now ≡ self.now.replica) × (result.reading.now ≡ self.now.reading) }
+    {
+        Lines {
+            replica: &self.replica,
+            reading: &self.reading,
+        }
     }
 }
 
@@ -47,13 +54,24 @@ struct Lines<'a, K: Kind> {
     reading: &'a Reading,
 }
 
+impl<K: Kind> Lines<'_, K> {
+    /// The index at which an entry is shown; none for a tombstone and for what is no entry.
+    fn lookup(&self, id: Id) -> Option<usize>
+        ensures value { result ≡ index_of self.now.replica.now self.now.reading.now id }
+        ensures shown { IfSome result (λ i. (s : ℕ) × (names id (entry_at self.now.replica.now.tree.nodes.items s) ≡ true) × (slice_index_or self.now.reading.now.indexes.items s None ≡ Some i)) }
+    {
+        let slot = self.replica.slot_of(id)?;
+        self.reading.index_of(slot)
+    }
+}
+
 impl<K: Kind> fmt::Display for Lines<'_, K> {
-    ghost output = { λ x. Some (entry_lines K.Kind.packed x.replica.now.tree.nodes.items x.reading.now.order.items) };
+    ghost output = { λ x. Some (entry_lines K.Kind.packed x.replica.now x.reading.now x.reading.now.order.items) };
 
     fn fmt<W: fmt::Write>(&self, f: &mut fmt::Formatter<W>) -> fmt::Result {
         for slot in self.reading.order() {
             if let Some(entry) = self.replica.entry(*slot)
-                && entry.shown
+                && let Some(_) = self.lookup(entry.id)
             {
                 write!(f, "{}", Line(entry))?;
             }

@@ -7,4 +7,4 @@ use Rattle.merger.proofs.showing.LinesDisplay.fmt.Given as goal
 abbrev pub invariant-loop-slot : goal.invariant-loop-slot
 invariant-loop-slot g l =
     IsPlainFormatter l.initial.f → HasWritten g.W.Write.write_str_gives l.initial.f
-    (entry_lines g.K.Kind.packed l.self.replica.now.tree.nodes.items (take l.slot-index l.slot-items)) l.f
+    (entry_lines g.K.Kind.packed l.self.replica.now l.self.reading.now (take l.slot-index l.slot-items)) l.f
