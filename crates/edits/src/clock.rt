@@ -8,7 +8,7 @@ use crate::id::Id;
 use crate::pairs::{count_among, place_among};
 
 /// How many edits of an editor are counted.
-#[derive(Clone, Copy)]
+#[derive(Clone, Copy, PartialEq, Eq, Debug)]
 pub struct Pair {
     pub editor: u8,
     pub count: u16,
@@ -17,7 +17,8 @@ pub struct Pair {
 /// A clock: the first `len` pairs; the others are unused, with editor 0 and count 0. It lists at most 16 editors,
 /// ascending, with counts of at least 1; an editor that is not listed counts 0. The rules are held by the types of edits
 /// that carry a clock.
-// An array with a length beside it: an edit is copied to the shelf when no more memory may be asked for.
+// An array with a length beside it: an edit is copied to the shelf, when no more memory may be asked for, so it holds no
+// `Vec`, and no list of the library with its own length can be copied like that.
 #[derive(Clone, Copy)]
 pub struct Clock {
     pub len: u8,

@@ -15,7 +15,7 @@ pub enum Side {
 
 /// What an inserted entry hangs under: the start of the document, which is no entry, or an entry.
 // No `Option`: the start is a place in the document, and `None` is said of what is not there.
-#[derive(Clone, Copy)]
+#[derive(Clone, Copy, PartialEq, Eq, Debug)]
 pub enum Parent {
     Start,
     Entry(Id),

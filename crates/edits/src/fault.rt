@@ -11,7 +11,7 @@ use std::fmt;
 
 /// One case for each refusal, in the order of their numbers. `usize` values are offsets in the record or the input
 /// unless said otherwise; identifiers are those of the edit that was refused.
-#[derive(Clone, Copy, Debug)]
+#[derive(Clone, Copy, PartialEq, Eq, Debug)]
 pub enum Fault {
     /// The machine has no memory left.
     NoMemory,
@@ -55,7 +55,7 @@ pub enum Fault {
 }
 
 /// The layer that refused.
-#[derive(Clone, Copy)]
+#[derive(Clone, Copy, PartialEq, Eq, Debug)]
 pub enum Layer {
     Format,
     Replica,
@@ -65,7 +65,7 @@ pub enum Layer {
 }
 
 /// What a fault points at: a number (an offset, a count of edits, or 0 where there is nothing to point at) or an edit.
-#[derive(Clone, Copy)]
+#[derive(Clone, Copy, PartialEq, Eq, Debug)]
 pub enum Spot {
     Number(usize),
     Edit(Id),

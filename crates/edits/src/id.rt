@@ -13,6 +13,7 @@ pub struct Id {
     pub number: u16,
 }
 
+// The comparisons and the text have names besides, which the definitions of the rules share.
 impl Id {
     /// Whether it stands before the other: by editor, then by number.
     pub fn precedes(self, other: Id) -> bool
@@ -40,8 +41,6 @@ impl fmt::Display for Id {
     ghost output = { λ x. Some (id_text x) };
 
     fn fmt<W: fmt::Write>(&self, f: &mut fmt::Formatter<W>) -> fmt::Result {
-        let editor = self.editor;
-        let number = self.number;
-        write!(f, "{editor}.{number}")
+        write!(f, "{}.{}", self.editor, self.number)
     }
 }

@@ -12,9 +12,9 @@ impl Kind for Cell {
 
     const CODE: u8 = 2;
 
-    ghost width = { 13 };
+    ghost WIDTH = { 13 };
 
-    ghost code = { 2 };
+    ghost CODE = { 2 };
 
     ghost packed = { cell_bytes };
 
@@ -31,14 +31,6 @@ impl Kind for Cell {
     ghost back = { λ x h. cell_back x h };
 
     ghost exact = { λ b x h e. cell_exact b x h e };
-
-    fn bytes() -> usize {
-        Self::WIDTH
-    }
-
-    fn kind_byte() -> u8 {
-        Self::CODE
-    }
 
     fn pack(&self, out: &mut [u8]) {
         let [a, b, c, d] = number(self.character).to_be_bytes();

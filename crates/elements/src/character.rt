@@ -11,9 +11,9 @@ impl Kind for char {
 
     const CODE: u8 = 1;
 
-    ghost width = { 4 };
+    ghost WIDTH = { 4 };
 
-    ghost code = { 1 };
+    ghost CODE = { 1 };
 
     ghost packed = { four };
 
@@ -30,14 +30,6 @@ impl Kind for char {
     ghost back = { Prim.search rules };
 
     ghost exact = { λ b x h e. character_exact b x h e };
-
-    fn bytes() -> usize {
-        Self::WIDTH
-    }
-
-    fn kind_byte() -> u8 {
-        Self::CODE
-    }
 
     fn pack(&self, out: &mut [u8]) {
         let bytes = u32::from(*self).to_be_bytes();

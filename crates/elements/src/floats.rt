@@ -31,5 +31,5 @@ pub(crate) fn finite_float(bits: u32) -> Option<f32>
     ensures { MatchOption result (float_is_finite (from_bits binary32 bits) ≡ false) (λ x. (x ≡ from_bits binary32 bits) × (float_is_finite (from_bits binary32 bits) ≡ true)) }
 {
     let x = f32_from_bits_with_nan(bits);
-    if x.is_finite() { Some(x) } else { None }
+    x.is_finite().then_some(x)
 }

@@ -5,17 +5,17 @@ ghost use Rattle.elements.specs.Bytes.{Bytes};
 /// A kind of element: how many bytes an element has, which, and what bytes stand for one. The bytes of a packed element
 /// are read as it, and all others are refused.
 pub trait Kind: Copy {
-    /// How many bytes an element has. Generic code asks `bytes()`.
+    /// How many bytes an element has.
     const WIDTH: usize;
 
-    /// The kind's byte in the head of a log. Generic code asks `kind_byte()`.
+    /// The kind's byte in the head of a log.
     const CODE: u8;
 
-    /// How many bytes an element has.
-    ghost width: { ℕ };
+    /// `WIDTH`, in clauses.
+    ghost WIDTH: { ℕ };
 
-    /// The kind's byte in the head of a log.
-    ghost code: { ℕ };
+    /// `CODE`, in clauses.
+    ghost CODE: { ℕ };
 
     /// The bytes of an element.
     ghost packed: { Self → List ℕ };
@@ -26,20 +26,23 @@ pub trait Kind: Copy {
     /// What holds of every element in memory.
     ghost proper: { Self → Bool };
 
-    // Two functions beside two constants: no clause can cite a trait's own constant (refused), and of a type
-    // parameter's constant nothing is known.
+    /// `WIDTH`, as a call.
+    final fn bytes() -> usize
+        ensures { result ≡ WIDTH }
+    {
+        Self::WIDTH
+    }
 
-    /// `WIDTH`, for generic code.
-    fn bytes() -> usize
-        ensures { result ≡ width };
-
-    /// `CODE`, for generic code.
-    fn kind_byte() -> u8
-        ensures { result ≡ code };
+    /// `CODE`, as a call.
+    final fn kind_byte() -> u8
+        ensures { result ≡ CODE }
+    {
+        Self::CODE
+    }
 
     /// Writes the element's bytes.
     fn pack(&self, out: &mut [u8])
-        requires { length out.old ≡ width }
+        requires { length out.old ≡ WIDTH }
         ensures after { out.new ≡ packed self.now }
         ensures proper { proper self.now ≡ true };
 
@@ -47,11 +50,11 @@ pub trait Kind: Copy {
     fn read(bytes: &[u8]) -> Option<Self>
         ensures { result ≡ unpacked bytes.now };
 
-    ghost least: { 1 ≤ width };
+    ghost least: { 1 ≤ WIDTH };
 
-    ghost most: { width ≤ 15 };
+    ghost most: { WIDTH ≤ 15 };
 
-    ghost sized: { (x : Self) → length (packed x) ≡ width };
+    ghost sized: { (x : Self) → length (packed x) ≡ WIDTH };
 
     ghost back: { (x : Self) → proper x ≡ true → unpacked (packed x) ≡ Some x };
 

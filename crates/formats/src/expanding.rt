@@ -28,7 +28,7 @@ impl Record<'_> {
     /// The edit at the place `i` of those that the record stands for, counted from 0. A place behind the last, and a
     /// record that was not read as one of this kind, are the caller's fault.
     pub fn edit<K: Kind>(&self, i: usize) -> Result<Edit<K>, Fault>
-        ensures { MatchResult result (λ e. edit_at K.Kind.width K.Kind.unpacked (raw self.now) i ≡ Some (plain e)) (λ f. (f ≡ OutsideLimits) × (Kept K.Kind.width self.now → edit_at K.Kind.width K.Kind.unpacked (raw self.now) i ≡ None)) }
+        ensures { MatchResult result (λ e. edit_at K.Kind.WIDTH K.Kind.unpacked (raw self.now) i ≡ Some (plain e)) (λ f. (f ≡ OutsideLimits) × (Kept K.Kind.WIDTH self.now → edit_at K.Kind.WIDTH K.Kind.unpacked (raw self.now) i ≡ None)) }
     {
         if i >= self.len() {
             return Err(Fault::OutsideLimits);
@@ -69,7 +69,7 @@ fn insertion<K: Kind>(
     side: Side,
     bytes: &[u8],
 ) -> Result<Edit<K>, Fault>
-    ensures { MatchResult result (λ e. inserted K.Kind.width K.Kind.unpacked (id, pairs_of clock, parent, side) (K.Kind.unpacked bytes.now) ≡ Some (plain e)) (λ f. (f ≡ OutsideLimits) × (stamp_kept id clock ≡ true → parent_kept (pairs_of clock) parent side ≡ true → K.Kind.unpacked bytes.now ≡ None)) }
+    ensures { MatchResult result (λ e. inserted K.Kind.WIDTH K.Kind.unpacked (id, pairs_of clock, parent, side) (K.Kind.unpacked bytes.now) ≡ Some (plain e)) (λ f. (f ≡ OutsideLimits) × (stamp_kept id clock ≡ true → parent_kept (pairs_of clock) parent side ≡ true → K.Kind.unpacked bytes.now ≡ None)) }
 {
     let element = K::read(bytes).ok_or(Fault::OutsideLimits)?;
     let stamp = Stamp::new(id, clock)?;
@@ -86,7 +86,7 @@ fn deletion<K: Kind>(id: Id, clock: Clock, target: Id) -> Result<Edit<K>, Fault>
 
 /// The insertion behind the place `i` of the run that begins with the edit.
 fn later<K: Kind>(id: Id, clock: &Clock, i: usize, bytes: &[u8]) -> Result<Edit<K>, Fault>
-    ensures { MatchResult result (λ e. inserted K.Kind.width K.Kind.unpacked (further id (i + 1), counting id.editor (id.number + i) (pairs_of clock.now), Entry (further id i), Right) (K.Kind.unpacked bytes.now) ≡ Some (plain e)) (λ f. (f ≡ OutsideLimits) × (stamp_kept id clock.now ≡ true → id.number + i < 65535 → K.Kind.unpacked bytes.now ≡ None)) }
+    ensures { MatchResult result (λ e. inserted K.Kind.WIDTH K.Kind.unpacked (further id (i + 1), counting id.editor (id.number + i) (pairs_of clock.now), Entry (further id i), Right) (K.Kind.unpacked bytes.now) ≡ Some (plain e)) (λ f. (f ≡ OutsideLimits) × (stamp_kept id clock.now ≡ true → id.number + i < 65535 → K.Kind.unpacked bytes.now ≡ None)) }
 {
     let before = id_further(id, i)?;
     let id = id_further(before, 1)?;
@@ -108,9 +108,9 @@ fn id_further(id: Id, n: usize) -> Result<Id, Fault>
 
 /// The bytes of the element at the place `i`.
 fn element_of<K: Kind>(elements: &[u8], i: usize) -> Option<&[u8]>
-    ensures { MatchOption result (length elements.now < i * K.Kind.width + K.Kind.width) (λ b. b.now ≡ take K.Kind.width (drop (i * K.Kind.width) elements.now)) }
+    ensures { MatchOption result (length elements.now < i * K.Kind.WIDTH + K.Kind.WIDTH) (λ b. b.now ≡ take K.Kind.WIDTH (drop (i * K.Kind.WIDTH) elements.now)) }
 {
     // By the offset, since `chunks_exact(..).nth(i)` would walk over the elements before it.
-    let start = i.checked_mul(K::bytes())?;
-    elements.get(start..)?.get(..K::bytes())
+    let start = i.checked_mul(K::WIDTH)?;
+    elements.get(start..)?.get(..K::WIDTH)
 }

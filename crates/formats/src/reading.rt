@@ -16,7 +16,7 @@ use elements::Kind;
 impl<'a> Reader<'a> {
     /// An insertion, from behind its mark.
     fn insertion<K: Kind>(&mut self) -> Result<Record<'a>, Fault>
-        ensures { Reads K.Kind.width self.old self.new (insertion_at K.Kind.width K.Kind.unpacked self.old.input.now self.old.at) result }
+        ensures { Reads K.Kind.WIDTH self.old self.new (insertion_at K.Kind.WIDTH K.Kind.unpacked self.old.input.now self.old.at) result }
     {
         let placement = self.placement()?;
         let offset = self.at;
@@ -33,7 +33,7 @@ impl<'a> Reader<'a> {
 
     /// A deletion, likewise.
     fn deletion<K: Kind>(&mut self) -> Result<Record<'a>, Fault>
-        ensures { Reads K.Kind.width self.old self.new (deletion_at self.old.input.now self.old.at) result }
+        ensures { Reads K.Kind.WIDTH self.old self.new (deletion_at self.old.input.now self.old.at) result }
     {
         let removal = self.removal()?;
         Ok(Record::Deletion {
@@ -61,7 +61,7 @@ impl<'a> Reader<'a> {
 
     /// A run, likewise.
     fn run<K: Kind>(&mut self) -> Result<Record<'a>, Fault>
-        ensures { Reads K.Kind.width self.old self.new (run_at K.Kind.width K.Kind.unpacked self.old.input.now self.old.at) result }
+        ensures { Reads K.Kind.WIDTH self.old self.new (run_at K.Kind.WIDTH K.Kind.unpacked self.old.input.now self.old.at) result }
     {
         let placement = self.placement()?;
         let len = self.run_length(placement.stamp.id)?;
@@ -85,7 +85,7 @@ impl<'a> Reader<'a> {
         bytes: [u8; 2],
         mark: usize,
     ) -> Result<Record<'a>, Fault>
-        ensures { Reads K.Kind.width self.old self.new (fields_at K.Kind.width K.Kind.unpacked format (slice_index bytes 0) (slice_index bytes 1) mark self.old.input.now self.old.at) result }
+        ensures { Reads K.Kind.WIDTH self.old self.new (fields_at K.Kind.WIDTH K.Kind.unpacked format (slice_index bytes 0) (slice_index bytes 1) mark self.old.input.now self.old.at) result }
     {
         match &bytes {
             INSERTION => self.insertion::<K>(),
@@ -102,7 +102,7 @@ pub fn read_record<'a, K: Kind>(
     input: &'a [u8],
     at: &mut usize,
 ) -> Result<Record<'a>, Fault>
-    ensures { MatchResult result (λ x. (record_at K.Kind.width K.Kind.unpacked format input.now at.old ≡ Ok (raw x, at.new)) × Kept K.Kind.width x × (at.old < at.new) × (at.new ≤ length input.now) × Whole K.Kind.width K.Kind.unpacked (raw x)) (λ e. (record_at K.Kind.width K.Kind.unpacked format input.now at.old ≡ Err e) × (at.new ≡ at.old)) }
+    ensures { MatchResult result (λ x. (record_at K.Kind.WIDTH K.Kind.unpacked format input.now at.old ≡ Ok (raw x, at.new)) × Kept K.Kind.WIDTH x × (at.old < at.new) × (at.new ≤ length input.now) × Whole K.Kind.WIDTH K.Kind.unpacked (raw x)) (λ e. (record_at K.Kind.WIDTH K.Kind.unpacked format input.now at.old ≡ Err e) × (at.new ≡ at.old)) }
 {
     let mark = *at;
     let mut guard = Guard {

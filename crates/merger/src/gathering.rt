@@ -1,11 +1,12 @@
 //! Logs taken in.
 ghost use Rattle.std.specs.Prelude.{◌≡◌, ◌+◌, ◌-◌, ◌<◌, ◌≤◌, false, length, if◌then◌else◌, Ok, Err, MatchResult, OnOk, nat_eq, nat_lt, slice_index};
+ghost use Rattle.std.specs.Iterator.{IsFinite};
 ghost use Rattle.edits.specs.declared.fault.Fault.TheVariants.{Extent, LogHead, WrongSize};
 
 use crate::merge::{Merge, State};
-use edits::Fault;
+use edits::{Edit, Fault};
 use elements::Kind;
-use formats::{Record, head_at, read_record};
+use formats::{head_at, read_record};
 use replica::Replica;
 
 /// The longest input that a merge takes.
@@ -30,22 +31,27 @@ impl<K: Kind, S: State> Merge<K, S> {
                 at = behind_head::<K>(input, at)?;
                 format = Some(next);
             } else {
-                let format = format.ok_or(no_head(input, at))?;
+                let format = format.ok_or_else(|| no_head(input, at))?;
                 let record = read_record::<K>(format, input, &mut at)?;
-                take_in_record(&mut self.replica, &record)?;
+                let edits = (0..record.len()).map(|i| record.edit(i));
+                take_in_all(&mut self.replica, edits)?;
             }
         }
         Ok(())
     }
 }
 
-/// Takes in the edits of a record in turn.
-fn take_in_record<K: Kind>(replica: &mut Replica<K>, record: &Record<'_>) -> Result<(), Fault>
+/// Takes in edits in turn, up to the first that cannot be made or is refused.
+fn take_in_all<K: Kind, I: Iterator<Item = Result<Edit<K>, Fault>> + Drop>(
+    replica: &mut Replica<K>,
+    edits: I,
+) -> Result<(), Fault>
+    requires can { I.can_next edits }
+    requires ends { IsFinite (I.remaining edits) }
     ensures { replica.new.tree.slots ≡ replica.old.tree.slots }
 {
-    // By place, and not by `map`: the prover refuses its own text for a loop over a closure in generic code.
-    for i in 0..record.len() {
-        replica.take_in(&record.edit(i)?)?;
+    for edit in edits {
+        replica.take_in(&edit?)?;
     }
     Ok(())
 }
@@ -53,11 +59,11 @@ fn take_in_record<K: Kind>(replica: &mut Replica<K>, record: &Record<'_>) -> Res
 /// The offset behind a head, whose kind must be that of the merge.
 fn behind_head<K: Kind>(input: &[u8], at: usize) -> Result<usize, Fault>
     requires { at + 2 ≤ length input.now }
-    ensures { MatchResult result (λ end. (end ≡ at + 3) × (end ≤ length input.now) × (slice_index input.now (at + 2) ≡ K.Kind.code)) (λ f. f ≡ (if nat_eq (length input.now) (at + 2) then Extent (length input.now) else LogHead (at + 2))) }
+    ensures { MatchResult result (λ end. (end ≡ at + 3) × (end ≤ length input.now) × (slice_index input.now (at + 2) ≡ K.Kind.CODE)) (λ f. f ≡ (if nat_eq (length input.now) (at + 2) then Extent (length input.now) else LogHead (at + 2))) }
 {
     let place = at + 2;
     let kind = *input.get(place).ok_or(Fault::Extent(input.len()))?;
-    if kind != K::kind_byte() {
+    if kind != K::CODE {
         return Err(Fault::LogHead(place));
     }
     Ok(place + 1)

@@ -8,7 +8,8 @@ use tree::Reading;
 
 /// What a merge is ready for. The state is a part of the merge's type, and the calls that want one state ask for it: a
 /// program that shows a merge still gathering, or gathers into a settled one, is not proved.
-// A clause asks for the state, not the type of `self`: so a misuse compiles, and that the prover refuses it is tried.
+// The calls ask for it by a clause, and not by the type of `self`: a misuse is then a program that the prover refuses,
+// and not one that has no meaning.
 pub trait State {
     /// Whether the merge shows its table, and takes in no logs.
     ghost settled: { Bool };

@@ -80,6 +80,9 @@ impl<K: Kind> fmt::Display for Lines<'_, K> {
     }
 }
 
+/// No kind is wider, by a law of kinds; so no memory is asked for.
+const WIDEST: usize = 15;
+
 /// The line of an entry: its identifier, and its element's bytes as digits.
 #[derive(Clone, Copy)]
 struct Line<K: Kind>(Entry<K>);
@@ -88,9 +91,8 @@ impl<K: Kind> fmt::Display for Line<K> {
     ghost output = { λ x. Some (entry_line x.0.id (K.Kind.packed x.0.element)) };
 
     fn fmt<W: fmt::Write>(&self, f: &mut fmt::Formatter<W>) -> fmt::Result {
-        // No kind is wider.
-        let mut buffer = [0; 15];
-        let bytes = &mut buffer[..K::bytes()];
+        let mut buffer = [0; WIDEST];
+        let bytes = &mut buffer[..K::WIDTH];
         self.0.element.pack(bytes);
         writeln!(f, "{} {}", self.0.id, Digits(bytes))
     }

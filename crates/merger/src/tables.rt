@@ -24,6 +24,7 @@ pub fn merged(heap: Global, input: &[u8]) -> Result<String, Fault>
     ensures cells { holds_cells input.now ≡ true → Ends cell_bytes input.now result }
     ensures characters { holds_cells input.now ≡ false → Ends four input.now result }
 {
+    // Tested here too, before any memory is asked for.
     if input.len() > LONGEST_INPUT {
         return Err(Fault::WrongSize);
     }
@@ -38,7 +39,8 @@ pub fn merged(heap: Global, input: &[u8]) -> Result<String, Fault>
 fn holds_cells(input: &[u8]) -> bool
     ensures { result ≡ holds_cells input.now }
 {
-    head_at(input, 0).is_some() && input.get(2).copied() == Some(Cell::kind_byte())
+    // Kinds are types; a byte that is none of theirs is refused where the head is read.
+    head_at(input, 0).is_some() && input.get(2) == Some(&Cell::CODE)
 }
 
 /// The table of an input with elements of the kind.

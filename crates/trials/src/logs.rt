@@ -181,7 +181,7 @@ mod tests {
     // Editors 1 to 16 fill the roster; what is known stays known.
     fn sixteen(heap: Global) -> Result<Log, Fail> {
         let mut log = Log::new(heap)?;
-        for editor in 1..17 {
+        for editor in 1..=16 {
             log.insertion(first_of(editor), None, START)?;
         }
         log.insertion(first_of(3), None, START)?;

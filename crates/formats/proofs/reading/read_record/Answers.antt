@@ -6,7 +6,7 @@ use Rattle.formats.proofs.reading.read_record.Goals as goal
 
 pub returns : goal.returns
 returns g c =
-    let width = g.K.Kind.width in
+    let width = g.K.Kind.WIDTH in
     let unpacked = g.K.Kind.unpacked in
     let input = c.args.input.now in
     let behind : c.byte-2.new.self.at ≡ c.args.at.now + 2 = search rules in
