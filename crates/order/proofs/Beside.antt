@@ -1,5 +1,6 @@
 -- The first of a list of identifiers, what stands right after another, and an entry put next to another.
 use Rattle.std.proofs.Common.{◌≡◌, Bool, true, false, cond, ◌⊎◌, List, [], ◌∷◌, ◌++◌, map, Some, None, Option, sym, refl, ap, ◌∙◌, subst, inl, inr}
+use Rattle.std.proofs.lemmas.Bool.{cases_Bool}
 use Rattle.edits.specs.declared.id.Id.{Id}
 use Rattle.edits.specs.declared.edit.Side.{Side}
 use Rattle.edits.specs.declared.edit.Side.TheVariants.{Left, Right}
@@ -7,7 +8,7 @@ use Rattle.edits.specs.Ids.{same}
 use Rattle.order.specs.Lists.{◌∈◌, here, there, ◌∉◌, Before}
 use Rattle.order.specs.Forests.{Entry, entry_id}
 use Rattle.order.specs.Placing.{first, after}
-use Rattle.order.proofs.Ids.{either, compare, same_refl, same_apart, same_eq, eq_same}
+use Rattle.order.proofs.Ids.{compare, same_refl, same_apart, same_eq, eq_same}
 use Rattle.order.proofs.Lists.{before_right, Distinct}
 
 -- an identifier that is there
@@ -101,7 +102,7 @@ module _ {E : Type 0} where
   pub beside_after : (a b : Id) (e : Entry E) (xs : List (Entry E)) → Distinct (map entry_id xs) → after b (map entry_id xs) ≡ Some a
       → beside a Left e xs ≡ beside b Right e xs
   beside_after a b e [] d h = absurd (none_some h)
-  beside_after a b e (x ∷ xs) d h = go (either (same x.id b)) (beside_after a b e xs d.1)
+  beside_after a b e (x ∷ xs) d h = go (cases_Bool (same x.id b)) (beside_after a b e xs d.1)
     where
       not_x : a ∈ map entry_id xs → same x.id a ≡ false
       not_x m = same_apart x.id a (λ p. d.0 (subst (λ (c : Id). c ∈ map entry_id xs) (sym p) m))

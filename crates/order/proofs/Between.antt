@@ -1,5 +1,6 @@
 -- What is below an entry on a side stands together, next to the entry; and whether an entry has a right child.
 use Rattle.std.proofs.Common.{◌≡◌, Bool, true, false, ◌&&◌, ◌||◌, ◌⊎◌, List, [], ◌∷◌, ◌++◌, Some, sym, refl, ap, ◌∙◌, subst, inl, inr, append_assoc, append-nil}
+use Rattle.std.proofs.lemmas.Bool.{and_parts, or_left, or_right}
 use mathlib.Core.Bool.{false≢true}
 use Rattle.edits.specs.declared.id.Id.{Id}
 use Rattle.edits.specs.declared.edit.Side.{Side}
@@ -11,7 +12,7 @@ use Rattle.order.specs.Lists.{◌∈◌, here, there, Before}
 use Rattle.order.specs.Edits.{Change, insertion}
 use Rattle.order.specs.Forests.{Entry, Forest, nil, node, ids, change}
 use Rattle.order.specs.Placing.{first, after, is_node, has_right, has_right_child}
-use Rattle.order.proofs.Ids.{same_eq, eq_same, and_true, or_left, or_right}
+use Rattle.order.proofs.Ids.{same_eq, eq_same}
 use Rattle.order.proofs.Lists.{in_left, in_right, in_split, in_nil, in_snoc, Distinct, distinct_across}
 use Rattle.order.proofs.Lists.{before_left, before_right, before_later, before_earlier, before_across, before_once}
 use Rattle.order.proofs.Nodes.{ids_node, Place, it, lefts, rights, nexts, place, placed, Apart, apart}
@@ -226,7 +227,7 @@ module _ {E : Type 0} where
 
       go : ((same x.id b && is_node r) ≡ true) ⊎ ((has_right b l ≡ true) ⊎ ((has_right b r ≡ true) ⊎ (has_right b n ≡ true)))
           → Step l → Step r → Step n → (a : Id) × Under Right b (node x l r n) a
-      go (inl t) L R N = let h = and_true (same x.id b) (is_node r) t in let k = node_has r h.1 in (k.0, inl (same_eq x.id b h.0, k.1))
+      go (inl t) L R N = let h = and_parts (same x.id b) (is_node r) t in let k = node_has r h.1 in (k.0, inl (same_eq x.id b h.0, k.1))
       go (inr (inl t)) L R N = let k = L t in (k.0, inr (inl k.1))
       go (inr (inr (inl t))) L R N = let k = R t in (k.0, inr (inr (inl k.1)))
       go (inr (inr (inr t))) L R N = let k = N t in (k.0, inr (inr (inr k.1)))

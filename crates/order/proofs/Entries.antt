@@ -1,5 +1,7 @@
 -- The entries of the tree of a history: which there are, which of them are shown, and in which order.
 use Rattle.std.proofs.Common.{◌≡◌, Bool, true, false, cond, not, ◌&&◌, ◌||◌, ◌⊎◌, List, [], ◌∷◌, ◌++◌, map, sym, refl, ap, ◌∙◌, subst, inl, inr}
+use Rattle.std.proofs.lemmas.Bool.{false_from_ne_true, and_parts, or_cases}
+use Rattle.std.proofs.Math.Bool.{or-false}
 use mathlib.Core.Bool.{false≢true}
 use Rattle.std.proofs.lemmas.List.{map-append}
 use Rattle.edits.specs.declared.id.Id.{Id}
@@ -11,19 +13,23 @@ use Rattle.order.specs.Lists.{◌∈◌, here, there, ◌∉◌, ◌⊆◌, keep
 use Rattle.order.specs.Edits.{Change, insertion, deletion, Edit, Refers, Lawful, is_insertion, Order}
 use Rattle.order.specs.Forests.{Entry, Forest, read, is_shown, entry_id, ids, fresh, hide, apply, grown, tree, visible}
 use Rattle.order.specs.Histories.{edit_id, edit_ids, Next, History, empty, more, inserted, deletes, deleted, stands, as_shown, standing}
-use Rattle.order.proofs.Ids.{not_true, and_true, or_true, or_nothing, not_or, same_eq, same_refl}
+use Rattle.order.proofs.Ids.{same_eq, same_refl}
 use Rattle.order.proofs.Lists.{any_true, true_any, any_append, in_left, in_last, of_map, in_nil, keep_alike, keep_map, Distinct, distinct_append}
 use Rattle.order.proofs.Growing.{Grew, Effect, of_grew, grew_keep, effect, effect_distinct, effect_ids, map_hide}
 use Rattle.order.proofs.Histories.{tree_snoc, in_ids, ids_old}
 use Rattle.order.proofs.Reordering.{rest_of, rest_new, rest_distinct, tree_from_part}
 
+not_or : (a b : Bool) → not (a || b) ≡ (not a && not b)
+not_or true b = refl
+not_or false b = refl
+
 module _ {E : Type 0} where
   deleted_snoc : (h : List (Edit E)) (e : Edit E) (a : Id) → deleted (h ++ (e ∷ [])) a ≡ (deleted h a || deletes e.change a)
-  deleted_snoc h e a = any_append (λ (d : Edit E). deletes d.change a) h (e ∷ []) ∙ ap (λ (b : Bool). deleted h a || b) (or_nothing (deletes e.change a))
+  deleted_snoc h e a = any_append (λ (d : Edit E). deletes d.change a) h (e ∷ []) ∙ ap (λ (b : Bool). deleted h a || b) (or-false (deletes e.change a))
 
   pub inserted_in : (h : List (Edit E)) (a : Id) → inserted h a ≡ true → (e : Edit E) × (e ∈ h) × (e.id ≡ a) × (is_insertion e.change ≡ true)
   inserted_in h a t = let u = any_true (λ (e : Edit E). is_insertion e.change && same e.id a) h t in
-      let v = and_true (is_insertion u.0.change) (same u.0.id a) u.2 in (u.0, u.1, same_eq u.0.id a v.1, v.0)
+      let v = and_parts (is_insertion u.0.change) (same u.0.id a) u.2 in (u.0, u.1, same_eq u.0.id a v.1, v.0)
 
   inserted_last : (h : List (Edit E)) (e : Edit E) → is_insertion e.change ≡ true → inserted (h ++ (e ∷ [])) e.id ≡ true
   inserted_last h e t = true_any (λ (d : Edit E). is_insertion d.change && same d.id e.id) (h ++ (e ∷ [])) (in_last h e) (rw (t, same_refl e.id) refl)
@@ -55,7 +61,7 @@ module _ {E : Type 0} where
 
     -- the new entry is not deleted
     unmarked : deleted h e.id ≡ false
-    unmarked = not_true (deleted h e.id) (λ t. n.new (S.marked e.id t))
+    unmarked = false_from_ne_true (deleted h e.id) (λ t. n.new (S.marked e.id t))
 
     -- what an entry of the larger tree is to be
     Good : Entry E → Type 0
@@ -66,7 +72,7 @@ module _ {E : Type 0} where
     old none y m = (
       inserted_more h e y.id (S.inserted y m),
       S.shown y m
-          ∙ ap not (sym (deleted_snoc h e y.id ∙ ap (λ (b : Bool). deleted h y.id || b) (none y.id) ∙ or_nothing (deleted h y.id))),
+          ∙ ap not (sym (deleted_snoc h e y.id ∙ ap (λ (b : Bool). deleted h y.id || b) (none y.id) ∙ or-false (deleted h y.id))),
     )
 
     module _ (p : Parent) (s : Side) (x : E) (q : e.change ≡ insertion p s x) where
@@ -109,7 +115,7 @@ module _ {E : Type 0} where
       distinct = subst (λ (g : Forest E). Distinct (ids g)) (sym (tree_snoc before h e)) (effect_distinct e.id e.change (read f) _ F new S.distinct);
       inserted = λ y m. (all y m).0;
       shown = λ y m. (all y m).1;
-      marked = λ a t. mark a (or_true (deleted h a) (deletes e.change a) (sym (deleted_snoc h e a) ∙ t));
+      marked = λ a t. mark a (or_cases (deleted h a) (deletes e.change a) (sym (deleted_snoc h e a) ∙ t));
     }
       where
         F : Effect e.id e.change (read f) (read (apply before e f))
@@ -198,5 +204,5 @@ part_in_order {E} {before} O {h} {all} H A sub =
     alike y m = S.shown y m ∙ sym (ap (λ (b : Bool). b && not (deleted h y.id)) (S.inserted y m))
 
     fails : (a : Id) → a ∈ edit_ids (rest_of h all) → test a ≡ false
-    fails a m = not_true (test a) (λ t. let u = inserted_in h a (and_true (inserted h a) (not (deleted h a)) t).0 in
+    fails a m = false_from_ne_true (test a) (λ t. let u = inserted_in h a (and_parts (inserted h a) (not (deleted h a)) t).0 in
         rest_new h all a m (subst (λ (b : Id). b ∈ edit_ids h) u.2 (in_ids h u.1)))

@@ -1,5 +1,6 @@
 -- What a change does to the entries in reading order: one more somewhere, one hidden, or nothing.
 use Rattle.std.proofs.Common.{◌≡◌, suc, Bool, true, false, cond, ◌⊎◌, List, [], ◌∷◌, ◌++◌, map, length, sym, refl, ap, ◌∙◌, subst, inl, inr}
+use Rattle.std.proofs.lemmas.Bool.{both_ways, cases_Bool}
 use Rattle.edits.specs.declared.id.Id.{Id}
 use Rattle.edits.specs.declared.edit.Side.{Side}
 use Rattle.edits.specs.declared.edit.Side.TheVariants.{Left, Right}
@@ -8,7 +9,7 @@ use Rattle.edits.specs.Ids.{same}
 use Rattle.order.specs.Lists.{◌∈◌, here, there, ◌∉◌, keep}
 use Rattle.order.specs.Edits.{Change, insertion, deletion}
 use Rattle.order.specs.Forests.{Entry, Forest, nil, node, read, entry_id, ids, fresh, hide, join, adopt, hang, change}
-use Rattle.order.proofs.Ids.{either, not_both, same_apart, eq_same}
+use Rattle.order.proofs.Ids.{same_apart, eq_same}
 use Rattle.order.proofs.Lists.{in_nil, is_in, is_in_true, of_is_in, Distinct}
 use Rattle.order.proofs.Nodes.{Place, it, lefts, rights, nexts, place, placed, Apart, apart, read_bury}
 
@@ -118,11 +119,11 @@ module _ {E : Type 0} (before : Id → Id → Bool) where
 
   pub effect : (a : Id) (c : Change E) (f : Forest E) → Distinct (ids f) → Effect a c (read f) (read (change before a c f))
   effect a (insertion parent.Start s x) f d = join_grew (fresh a x) f
-  effect a (insertion (parent.Entry p) s x) f d = go (either (is_in (ids f) p))
+  effect a (insertion (parent.Entry p) s x) f d = go (cases_Bool (is_in (ids f) p))
     where
       go : (is_in (ids f) p ≡ true) ⊎ (is_in (ids f) p ≡ false) → Effect a (insertion (parent.Entry p) s x) (read f) (read (hang before p s (fresh a x) f))
       go (inl t) = let m = of_is_in (ids f) p t in inr (hang_grew p s (fresh a x) f d m, m)
-      go (inr t) = let no-p : p ∉ ids f = λ m. not_both (is_in_true (ids f) p m) t in inl (ap read (hang_absent p s (fresh a x) f no-p), no-p)
+      go (inr t) = let no-p : p ∉ ids f = λ m. both_ways _ t (is_in_true (ids f) p m) in inl (ap read (hang_absent p s (fresh a x) f no-p), no-p)
   effect a (deletion t) f d = read_bury t f
 
 module _ {E : Type 0} where

@@ -1,5 +1,6 @@
 -- What holds of every history: lawful edits, each after all that its clock covers.
-use Rattle.std.proofs.Common.{◌≡◌, ℕ, zero, suc, ◌+◌, ◌≤◌, Bool, true, false, eqb, leb, ◌⊎◌, List, [], ◌∷◌, ◌++◌, sym, refl, ap, ◌∙◌, subst, inl, inr, arith}
+use Rattle.std.proofs.Common.{◌≡◌, ℕ, zero, suc, ◌+◌, ◌≤◌, Bool, true, false, eqb, leb, ◌⊎◌, List, [], ◌∷◌, ◌++◌, sym, refl, ap, ◌∙◌, subst, inl, inr, arith, eq-eqb, ne_eqb, eqb-true, leb-false, leb-true}
+use Rattle.std.proofs.lemmas.Bool.{cases_Bool}
 use mathlib.Core.Bool.{false≢true}
 use Rattle.std.proofs.lemmas.List.{map-append}
 use Rattle.edits.specs.declared.id.Id.{Id}
@@ -7,7 +8,7 @@ use Rattle.order.specs.Lists.{◌∈◌, ◌⊆◌}
 use Rattle.order.specs.Edits.{Edit, Covers, Lawful}
 use Rattle.order.specs.Forests.{Forest, nil, apply, grown, tree}
 use Rattle.order.specs.Histories.{edit_id, edit_ids, count, Next, History, empty, more}
-use Rattle.order.proofs.Ids.{either, id_eq, eqb_eq, eqb_same, eqb_apart, leb_le, leb_lt}
+use Rattle.order.proofs.Ids.{id_eq}
 use Rattle.order.proofs.Lists.{in_left, in_last, in_snoc, in_map, of_map}
 
 module _ {E : Type 0} where
@@ -76,12 +77,12 @@ module _ {E : Type 0} where
 
   pub count_own : (h : List (Edit E)) (e : Edit E) → count (h ++ (e ∷ [])) e.id.editor ≡ suc (count h e.id.editor)
   count_own h e = let s = count_append h (e ∷ []) e.id.editor in
-      let one : count (e ∷ []) e.id.editor ≡ 1 = rw (eqb_same e.id.editor) (omega arith) in
+      let one : count (e ∷ []) e.id.editor ≡ 1 = rw (eq-eqb e.id.editor e.id.editor refl) (omega arith) in
       omega (arith, s, one)
 
   pub count_other : (h : List (Edit E)) (e : Edit E) (editor : ℕ) → (e.id.editor ≡ editor → ⊥) → count (h ++ (e ∷ [])) editor ≡ count h editor
   count_other h e editor ne = let s = count_append h (e ∷ []) editor in
-      let none : count (e ∷ []) editor ≡ 0 = rw (eqb_apart e.id.editor editor ne) (omega arith) in
+      let none : count (e ∷ []) editor ≡ 0 = rw (ne_eqb e.id.editor editor ne) (omega arith) in
       omega (arith, s, none)
 
   pub count_grows : (h : List (Edit E)) (e : Edit E) (editor : ℕ) → count h editor ≤ count (h ++ (e ∷ [])) editor
@@ -93,7 +94,7 @@ module _ {E : Type 0} where
     pub full : (a : Id) → Covers (count h) a → a ∈ edit_ids h
 
   pub next_number : {h : List (Edit E)} → Counted h → (e : Edit E) → Lawful e → Next h e → e.id.number ≡ suc (count h e.id.editor)
-  next_number {h} C e l n = let own = l.own in go own (either (leb e.id.number (count h e.id.editor)))
+  next_number {h} C e l n = let own = l.own in go own (cases_Bool (leb e.id.number (count h e.id.editor)))
     where
       last : (c : ℕ) → e.clock e.id.editor ≡ c → c ≤ count h e.id.editor
       last zero p = omega arith
@@ -105,11 +106,11 @@ module _ {E : Type 0} where
       go : suc (e.clock e.id.editor) ≡ e.id.number
           → (leb e.id.number (count h e.id.editor) ≡ true) ⊎ (leb e.id.number (count h e.id.editor) ≡ false)
           → e.id.number ≡ suc (count h e.id.editor)
-      go own (inl t) = absurd (n.new (C.full e.id (omega (arith, own), leb_le e.id.number (count h e.id.editor) t)))
-      go own (inr t) = let gt = leb_lt e.id.number (count h e.id.editor) t in omega (arith, own, gt, low)
+      go own (inl t) = absurd (n.new (C.full e.id (omega (arith, own), leb-true e.id.number (count h e.id.editor) t)))
+      go own (inr t) = let gt = leb-false e.id.number (count h e.id.editor) t in omega (arith, own, gt, low)
 
   counted_more : {h : List (Edit E)} → Counted h → (e : Edit E) → e.id.number ≡ suc (count h e.id.editor) → Counted (h ++ (e ∷ []))
-  counted_more {h} C e num = record { within = λ a m. low a (ids_snoc h e m); full = λ a c. high a c (either (eqb e.id.editor a.editor)) }
+  counted_more {h} C e num = record { within = λ a m. low a (ids_snoc h e m); full = λ a c. high a c (cases_Bool (eqb e.id.editor a.editor)) }
     where
       low : (a : Id) → (a ∈ edit_ids h) ⊎ (a ≡ e.id) → Covers (count (h ++ (e ∷ []))) a
       low a (inl m) = let c = C.within a m in let g = count_grows h e a.editor in omega (arith, c.0, c.1, g)
@@ -117,11 +118,11 @@ module _ {E : Type 0} where
 
       last : (a : Id) → Covers (count (h ++ (e ∷ []))) a → e.id.editor ≡ a.editor
           → (leb a.number (count h a.editor) ≡ true) ⊎ (leb a.number (count h a.editor) ≡ false) → a ∈ edit_ids (h ++ (e ∷ []))
-      last a c p (inl t) = ids_old h e (C.full a (c.0, leb_le a.number (count h a.editor) t))
+      last a c p (inl t) = ids_old h e (C.full a (c.0, leb-true a.number (count h a.editor) t))
       last a c p (inr t) = subst (λ (b : Id). b ∈ edit_ids (h ++ (e ∷ []))) (id_eq e.id a p same_number) (in_ids (h ++ (e ∷ [])) (in_last h e))
         where
           same_number : e.id.number ≡ a.number
-          same_number = let gt = leb_lt a.number (count h a.editor) t in
+          same_number = let gt = leb-false a.number (count h a.editor) t in
               let o = count_own h e in
               let c₁ : count (h ++ (e ∷ [])) e.id.editor ≡ count (h ++ (e ∷ [])) a.editor = ap (count (h ++ (e ∷ []))) p in
               let c₂ : count h e.id.editor ≡ count h a.editor = ap (count h) p in
@@ -130,11 +131,11 @@ module _ {E : Type 0} where
 
       high : (a : Id) → Covers (count (h ++ (e ∷ []))) a → (eqb e.id.editor a.editor ≡ true) ⊎ (eqb e.id.editor a.editor ≡ false)
           → a ∈ edit_ids (h ++ (e ∷ []))
-      high a c (inl t) = last a c (eqb_eq e.id.editor a.editor t) (either (leb a.number (count h a.editor)))
+      high a c (inl t) = last a c (eqb-true e.id.editor a.editor t) (cases_Bool (leb a.number (count h a.editor)))
       high a c (inr t) = ids_old h e (C.full a (c.0, subst (λ (n : ℕ). a.number ≤ n) (count_other h e a.editor (λ p. apart p)) c.1))
         where
           apart : e.id.editor ≡ a.editor → ⊥
-          apart p = false≢true (sym t ∙ subst (λ (n : ℕ). eqb e.id.editor n ≡ true) p (eqb_same e.id.editor))
+          apart p = false≢true (sym t ∙ subst (λ (n : ℕ). eqb e.id.editor n ≡ true) p (eq-eqb e.id.editor e.id.editor refl))
 
   pub counted : {h : List (Edit E)} → History h → Counted h
   counted empty = record { within = λ a m. elim m [ ]; full = λ a c. absurd (none a c.0 c.1) }

@@ -1,11 +1,13 @@
 -- Members of lists, filters, lists without repetition, order of places, and functions replaced at a place.
-use Rattle.std.proofs.Common.{◌≡◌, ℕ, zero, suc, ◌<◌, Bool, true, false, cond, ◌&&◌, ◌||◌, eqb, ◌⊎◌, List, [], ◌∷◌, ◌++◌, map, length, get_or, sym, refl, ap, ◌∙◌, subst, inl, inr, arith}
+use Rattle.std.proofs.Common.{◌≡◌, ℕ, zero, suc, ◌<◌, Bool, true, false, cond, ◌&&◌, ◌||◌, eqb, ◌⊎◌, List, [], ◌∷◌, ◌++◌, map, length, get_or, sym, refl, ap, ◌∙◌, subst, inl, inr, arith, eq-eqb, ne_eqb, eqb-true}
+use Rattle.std.proofs.lemmas.Bool.{both_ways, cases_Bool, false_from_ne_true, or_cases, or_left, or_right}
+use Rattle.std.proofs.Math.Bool.{or_assoc}
 use mathlib.Core.Bool.{false≢true}
 use mathlib.Core.Logic.{⊎_map}
 use Rattle.edits.specs.declared.id.Id.{Id}
 use Rattle.edits.specs.Ids.{same}
 use Rattle.order.specs.Lists.{◌∈◌, here, there, ◌∉◌, ◌⊆◌, keep, Before, with_at, any}
-use Rattle.order.proofs.Ids.{either, not_both, not_true, or_true, or_left, or_right, or_or, eqb_same, eqb_eq, eqb_apart, same_eq, eq_same}
+use Rattle.order.proofs.Ids.{same_eq, eq_same}
 
 module _ {A : Type 0} where
   pub in_left : {x : A} (xs ys : List A) → x ∈ xs → x ∈ (xs ++ ys)
@@ -97,7 +99,7 @@ module _ {A : Type 0} where
   -- some element passes
   pub any_true : (p : A → Bool) (xs : List A) → any p xs ≡ true → (x : A) × (x ∈ xs) × (p x ≡ true)
   any_true p [] t = absurd (false≢true t)
-  any_true p (y ∷ xs) t = go (or_true (p y) (any p xs) t) (any_true p xs)
+  any_true p (y ∷ xs) t = go (or_cases (p y) (any p xs) t) (any_true p xs)
     where
       go : (p y ≡ true) ⊎ (any p xs ≡ true) → (any p xs ≡ true → (x : A) × (x ∈ xs) × (p x ≡ true)) → (x : A) × (x ∈ (y ∷ xs)) × (p x ≡ true)
       go (inl k) ih = (y, here refl, k)
@@ -109,11 +111,11 @@ module _ {A : Type 0} where
   true_any p (y ∷ xs) (there m) t = or_right (p y) (any p xs) (true_any p xs m t)
 
   pub any_false : (p : A → Bool) (xs : List A) → any p xs ≡ false → (x : A) → x ∈ xs → p x ≡ false
-  any_false p xs t x m = not_true (p x) (λ u. not_both (true_any p xs m u) t)
+  any_false p xs t x m = false_from_ne_true (p x) (λ u. both_ways _ t (true_any p xs m u))
 
   pub any_append : (p : A → Bool) (xs ys : List A) → any p (xs ++ ys) ≡ (any p xs || any p ys)
   any_append p [] ys = refl
-  any_append p (x ∷ xs) ys = ap (λ (b : Bool). p x || b) (any_append p xs ys) ∙ sym (or_or (p x) (any p xs) (any p ys))
+  any_append p (x ∷ xs) ys = ap (λ (b : Bool). p x || b) (any_append p xs ys) ∙ sym (or_assoc (p x) (any p xs) (any p ys))
 
   -- lists with the same elements
   pub any_same : (p : A → Bool) (xs ys : List A) → xs ⊆ ys → ys ⊆ xs → any p xs ≡ any p ys
@@ -222,7 +224,7 @@ is_in_true (x ∷ xs) a (there m) = or_right (same x a) (is_in xs a) (is_in_true
 pub of_is_in : (xs : List Id) (a : Id) → is_in xs a ≡ true → a ∈ xs
 unfolding is_in
 of_is_in [] a t = absurd (false≢true t)
-of_is_in (x ∷ xs) a t = go (or_true (same x a) (is_in xs a) t) (of_is_in xs a)
+of_is_in (x ∷ xs) a t = go (or_cases (same x a) (is_in xs a) t) (of_is_in xs a)
   where
     go : (same x a ≡ true) ⊎ (is_in xs a ≡ true) → (is_in xs a ≡ true → a ∈ xs) → a ∈ (x ∷ xs)
     go (inl s) ih = here (sym (same_eq x a s))
@@ -231,16 +233,16 @@ of_is_in (x ∷ xs) a t = go (or_true (same x a) (is_in xs a) t) (of_is_in xs a)
 -- a function replaced at a place
 module _ {X : Type 0} where
   pub at_it : (f : ℕ → X) (i : ℕ) (x : X) → with_at f i x i ≡ x
-  at_it f i x = ap (λ (b : Bool). cond b x (f i)) (eqb_same i)
+  at_it f i x = ap (λ (b : Bool). cond b x (f i)) (eq-eqb i i refl)
 
   pub at_other : (f : ℕ → X) (i : ℕ) (x : X) (j : ℕ) → (j ≡ i → ⊥) → with_at f i x j ≡ f j
-  at_other f i x j ne = ap (λ (b : Bool). cond b x (f j)) (eqb_apart j i ne)
+  at_other f i x j ne = ap (λ (b : Bool). cond b x (f j)) (ne_eqb j i ne)
 
   -- what holds of the new value and of the others
   pub at_each : (P : ℕ → X → Type 0) (f : ℕ → X) (i : ℕ) (x : X) → P i x → ((j : ℕ) → (j ≡ i → ⊥) → P j (f j)) → (j : ℕ) → P j (with_at f i x j)
-  at_each P f i x it others j = go (either (eqb j i))
+  at_each P f i x it others j = go (cases_Bool (eqb j i))
     where
       go : (eqb j i ≡ true) ⊎ (eqb j i ≡ false) → P j (with_at f i x j)
-      go (inl t) = subst (λ (b : Bool). P j (cond b x (f j))) (sym t) (subst (λ (n : ℕ). P n x) (sym (eqb_eq j i t)) it)
+      go (inl t) = subst (λ (b : Bool). P j (cond b x (f j))) (sym t) (subst (λ (n : ℕ). P n x) (sym (eqb-true j i t)) it)
       go (inr t) = subst (λ (b : Bool). P j (cond b x (f j))) (sym t)
-          (others j (λ p. not_both (subst (λ (n : ℕ). eqb n i ≡ true) (sym p) (eqb_same i)) t))
+          (others j (λ p. both_ways _ t (subst (λ (n : ℕ). eqb n i ≡ true) (sym p) (eq-eqb i i refl))))

@@ -1,5 +1,6 @@
 -- The tree of a set of edits does not depend on the order in which they were applied.
 use Rattle.std.proofs.Common.{◌≡◌, Bool, true, false, cond, not, ◌⊎◌, List, [], ◌∷◌, ◌++◌, sym, refl, ap, ◌∙◌, subst, inl, inr, append_assoc, append-nil}
+use Rattle.std.proofs.lemmas.Bool.{cases_Bool}
 use mathlib.Core.Bool.{false≢true}
 use Rattle.edits.specs.declared.id.Id.{Id}
 use Rattle.edits.specs.declared.edit.Side.TheVariants.{Left, Right}
@@ -9,7 +10,7 @@ use Rattle.order.specs.Lists.{◌∈◌, here, ◌∉◌, ◌⊆◌, keep}
 use Rattle.order.specs.Edits.{Clock, Change, insertion, deletion, Edit, Covers, Refers, Order}
 use Rattle.order.specs.Forests.{nil, apply, grown, tree}
 use Rattle.order.specs.Histories.{edit_id, edit_ids, History, empty, more, SameEdits}
-use Rattle.order.proofs.Ids.{either, compare, same_apart, same_refl}
+use Rattle.order.proofs.Ids.{compare, same_apart, same_refl}
 use Rattle.order.proofs.Lists.{in_left, in_right, in_split, in_last, in_snoc, in_keep, of_keep, keep_snoc, keep_all, is_in, is_in_true, of_is_in, Distinct}
 use Rattle.order.proofs.Commuting.{Names, change_change}
 use Rattle.order.proofs.Histories.{tree_snoc, grown_append, in_ids, of_ids, ids_sub, not_own, lawful_in, covered_in, one_each}
@@ -151,7 +152,7 @@ module _ {E : Type 0} where
     -- an edit of all is in h, or among the rest
     placed : (all : List (Edit E)) (a : Id) → a ∈ edit_ids all → a ∈ edit_ids (h ++ rest_of h all)
     unfolding rest_of beyond
-    placed all a m = go (either (is_in (edit_ids h) a)) (of_ids all m)
+    placed all a m = go (cases_Bool (is_in (edit_ids h) a)) (of_ids all m)
       where
         go : (is_in (edit_ids h) a ≡ true) ⊎ (is_in (edit_ids h) a ≡ false) → (d : Edit E) × (d ∈ all) × (d.id ≡ a) → a ∈ edit_ids (h ++ rest_of h all)
         go (inl t) u = ids_sub h (h ++ rest_of h all) (λ d k. in_left h (rest_of h all) k) a (of_is_in (edit_ids h) a t)
@@ -178,7 +179,7 @@ module _ {E : Type 0} where
 
     pub part_same : {all : List (Edit E)} → History all → h ⊆ all → SameEdits (h ++ rest_of h all) all
     unfolding rest_of beyond
-    part_same {all} A sub d = ((λ m. back (in_split h (rest_of h all) m)), λ m. there_or m (either (is_in (edit_ids h) d.id)))
+    part_same {all} A sub d = ((λ m. back (in_split h (rest_of h all) m)), λ m. there_or m (cases_Bool (is_in (edit_ids h) d.id)))
       where
         back : (d ∈ h) ⊎ (d ∈ rest_of h all) → d ∈ all
         back (inl i) = sub d i

@@ -1,5 +1,6 @@
 -- One replica, given any edits: its document is the tree of exactly the applied edits.
-use Rattle.std.proofs.Common.{◌≡◌, ℕ, zero, suc, ◌+◌, ◌<◌, ◌≤◌, Bool, true, false, eqb, ltb, leb, ◌⊎◌, List, [], ◌∷◌, ◌++◌, length, Some, None, Option, sym, refl, ap, ◌∙◌, subst, inl, inr, arith, length-append}
+use Rattle.std.proofs.Common.{◌≡◌, ℕ, zero, suc, ◌+◌, ◌<◌, ◌≤◌, Bool, true, false, eqb, ltb, leb, ◌⊎◌, List, [], ◌∷◌, ◌++◌, length, Some, None, Option, sym, refl, ap, ◌∙◌, subst, inl, inr, arith, length-append, ltb-false, eq-eqb, eqb-true, leb-false}
+use Rattle.std.proofs.lemmas.Bool.{both_ways, cases_Bool}
 use mathlib.Core.Path.{fun_ext}
 use Rattle.edits.specs.declared.id.Id.{Id}
 use Rattle.edits.specs.declared.fault.Fault.{Fault}
@@ -9,7 +10,6 @@ use Rattle.order.specs.Forests.{Forest, visible, apply, tree}
 use Rattle.order.specs.Histories.{edit_ids, count, History, empty, more}
 use Rattle.order.specs.Systems.{Making, insertion_made, deletion_made}
 use Rattle.order.specs.Theorems.{PutAt, HiddenAt}
-use Rattle.order.proofs.Ids.{either, not_both, eqb_eq, eqb_same, leb_lt, ltb_le}
 use Rattle.order.proofs.Lists.{in_left, in_last, in_snoc, in_nil}
 use Rattle.order.proofs.Histories.{tree_snoc, in_ids, of_ids, count_own, count_other}
 use Rattle.order.proofs.Making.{inserts_at, deletes_at}
@@ -32,16 +32,16 @@ total_same (suc n) h e l = let ih = total_same n h e (omega arith) in let o = co
 total_more : {E : Type 0} (n : ℕ) (h : List (Edit E)) (e : Edit E) → 1 ≤ e.id.editor → e.id.editor ≤ n → total n (count (h ++ (e ∷ []))) ≡ suc (total n (count h))
 unfolding total
 total_more zero h e l u = let no : ⊥ = omega arith in absurd no
-total_more (suc n) h e l u = go (either (eqb e.id.editor (suc n))) (total_more n h e l)
+total_more (suc n) h e l u = go (cases_Bool (eqb e.id.editor (suc n))) (total_more n h e l)
   where
     go : (eqb e.id.editor (suc n) ≡ true) ⊎ (eqb e.id.editor (suc n) ≡ false)
         → (e.id.editor ≤ n → total n (count (h ++ (e ∷ []))) ≡ suc (total n (count h)))
         → count (h ++ (e ∷ [])) (suc n) + total n (count (h ++ (e ∷ []))) ≡ suc (count h (suc n) + total n (count h))
-    go (inl t) ih = let p = eqb_eq e.id.editor (suc n) t in
+    go (inl t) ih = let p = eqb-true e.id.editor (suc n) t in
         let o : count (h ++ (e ∷ [])) (suc n) ≡ suc (count h (suc n)) = subst (λ (j : ℕ). count (h ++ (e ∷ [])) j ≡ suc (count h j)) p (count_own h e) in
         let s = total_same n h e (omega (arith, p)) in
         omega (arith, o, s)
-    go (inr t) ih = let ne : (e.id.editor ≡ suc n → ⊥) = λ p. not_both (subst (λ (j : ℕ). eqb e.id.editor j ≡ true) p (eqb_same e.id.editor)) t in
+    go (inr t) ih = let ne : (e.id.editor ≡ suc n → ⊥) = λ p. both_ways _ t (subst (λ (j : ℕ). eqb e.id.editor j ≡ true) p (eq-eqb e.id.editor e.id.editor refl)) in
         let o = count_other h e (suc n) ne in
         let i = ih (omega (arith, ne, u)) in
         omega (arith, o, i)
@@ -73,7 +73,7 @@ module _ {E : Type 0} where
       where
         go : (e ∈ log) ⊎ (e ∈ r.shelf) → ((a : Id) (c : Covers e.clock a) → of a c ∈ log) → e ∈ log
         go (inl k) ih = k
-        go (inr k) ih = absurd (not_both (covered_ready S e (λ a c. subst (λ (b : Id). b ∈ edit_ids log) (same_id a c) (in_ids log (ih a c)))) (rest e k))
+        go (inr k) ih = absurd (both_ways _ (rest e k) (covered_ready S e (λ a c. subst (λ (b : Id). b ∈ edit_ids log) (same_id a c) (in_ids log (ih a c)))))
 
     pub log_applied : (e : Edit E) → e ∈ log → Applied acc e
     log_applied = history_applied S.history acc (λ e m. (S.accepted e).1 (inl m))
@@ -115,7 +115,7 @@ module _ {E : Type 0} where
     pub puts_at : (k n : ℕ) (x : E) (m : Making E) → (insert before k x r).1 ≡ edited m n → (own_insertion k x r ≡ m) × (k ≤ length (visible r.forest)) × PutAt k m.edit.id x r.forest (apply before m.edit r.forest)
     puts_at k n x m q = (
       u.0,
-      ltb_le (length (visible r.forest)) k u.1,
+      ltb-false (length (visible r.forest)) k u.1,
       subst (λ (v : Making E). PutAt k v.edit.id x r.forest (apply before v.edit r.forest)) (sym (insertion_is S i ed owner k x) ∙ u.0)
           (subst (λ (f : Forest E). PutAt k (insertion_made before i log k x).edit.id x f (apply before (insertion_made before i log k x).edit f)) (sym S.forest)
           (ap visible (sym (tree_snoc before log (insertion_made before i log k x).edit)) ∙ inserts_at before S.history i k x le)),
@@ -126,12 +126,12 @@ module _ {E : Type 0} where
             (allowed_by (next_id r) (own_waits r) (used_up r) (ltb (length (visible r.forest)) k) (full r)) q
 
         le : k ≤ length (visible (tree before log))
-        le = subst (λ (f : Forest E). k ≤ length (visible f)) S.forest (ltb_le (length (visible r.forest)) k u.1)
+        le = subst (λ (f : Forest E). k ≤ length (visible f)) S.forest (ltb-false (length (visible r.forest)) k u.1)
 
     pub hides_at : (k n : ℕ) (m : Making E) → (delete before k r).1 ≡ edited m n → (own_deletion k r ≡ m) × (k < length (visible r.forest)) × HiddenAt k r.forest (apply before m.edit r.forest)
     hides_at k n m q = (
       u.0,
-      leb_lt (length (visible r.forest)) k u.1,
+      leb-false (length (visible r.forest)) k u.1,
       subst (λ (v : Making E). HiddenAt k r.forest (apply before v.edit r.forest)) (sym (deletion_is S i ed owner k) ∙ u.0)
           (subst (λ (f : Forest E). HiddenAt k f (apply before (deletion_made before i log k).edit f)) (sym S.forest)
           (ap visible (sym (tree_snoc before log (deletion_made before i log k).edit)) ∙ deletes_at before S.history i k lt)),
@@ -142,7 +142,7 @@ module _ {E : Type 0} where
             (allowed_by (next_id r) (own_waits r) (used_up r) (leb (length (visible r.forest)) k) false) q
 
         lt : k < length (visible (tree before log))
-        lt = subst (λ (f : Forest E). k < length (visible f)) S.forest (leb_lt (length (visible r.forest)) k u.1)
+        lt = subst (λ (f : Forest E). k < length (visible f)) S.forest (leb-false (length (visible r.forest)) k u.1)
 
   pub new_sound : (before : Id → Id → Bool) (editor : Option ℕ) (slots room : ℕ) → Sound {E = E} before (new editor slots room) [] []
   new_sound before editor slots room = record {

@@ -1,5 +1,6 @@
 -- Taking in, inserting and deleting keep a replica sound.
-use Rattle.std.proofs.Common.{◌≡◌, ℕ, suc, ◌+◌, ◌<◌, ◌≤◌, Bool, true, false, cond, not, ◌&&◌, eqb, ltb, leb, ◌⊎◌, List, [], ◌∷◌, ◌++◌, length, Some, None, Option, sym, refl, ap, ◌∙◌, subst, inl, inr, append-nil, arith, length-append}
+use Rattle.std.proofs.Common.{◌≡◌, ℕ, suc, ◌+◌, ◌<◌, ◌≤◌, Bool, true, false, cond, not, ◌&&◌, eqb, ltb, leb, ◌⊎◌, List, [], ◌∷◌, ◌++◌, length, Some, None, Option, sym, refl, ap, ◌∙◌, subst, inl, inr, append-nil, arith, length-append, eq-eqb, leb-false}
+use Rattle.std.proofs.lemmas.Bool.{both_ways}
 use Rattle.std.proofs.lemmas.List.{map-append}
 use Rattle.edits.specs.declared.id.Id.{Id}
 use Rattle.edits.specs.declared.edit.Parent.TheVariants.{Start}
@@ -10,7 +11,6 @@ use Rattle.order.specs.Forests.{Forest, read, visible, tree}
 use Rattle.order.specs.Placing.{left_neighbour, follower, insertion_at, deletion_at}
 use Rattle.order.specs.Histories.{edit_id, edit_ids, Next}
 use Rattle.order.specs.Systems.{Making, edits_of, new_edit, insertion_made, deletion_made}
-use Rattle.order.proofs.Ids.{not_both, leb_lt, eqb_same}
 use Rattle.order.proofs.Lists.{any_false, in_left, in_last, in_snoc, Distinct, distinct_append, in_nil, keep_append}
 use Rattle.order.proofs.Histories.{of_ids, counted}
 use Rattle.order.proofs.Making.{insertion_lawful, deletion_lawful, new_next}
@@ -26,7 +26,7 @@ slot_left : {E : Type 0} (r : Replica E) (e : Edit E) → (inserts e && full r) 
 slot_left r e t le = go (inserts e) t
   where
     go : (b : Bool) → (b && full r) ≡ false → length (read r.forest) + (one_if b + length (keep inserts r.shelf)) ≤ r.slots
-    go true u = let gt = leb_lt r.slots (length (read r.forest) + length (keep inserts r.shelf)) u in omega (arith, gt)
+    go true u = let gt = leb-false r.slots (length (read r.forest) + length (keep inserts r.shelf)) u in omega (arith, gt)
     go false u = omega (arith, le)
 
 pub own_is : {E : Type 0} (r : Replica E) (i : ℕ) → r.editor ≡ Some i → own r ≡ i
@@ -85,7 +85,7 @@ module _ {E : Type 0} {before : Id → Id → Bool} where
     where
       few : (b : Bool) → (not b && leb most_editors (length r.roster)) ≡ false → length (cond b r.roster (placed e.id.editor r.roster)) ≤ most_editors
       few true u = S.editors
-      few false u = let lt = leb_lt most_editors (length r.roster) u in let l = placed_length e.id.editor r.roster in omega (arith, lt, l)
+      few false u = let lt = leb-false most_editors (length r.roster) u in let l = placed_length e.id.editor r.roster in omega (arith, lt, l)
 
   -- a new edit is applied, and then what waited for it
   settle : {r : Replica E} {acc log : List (Edit E)} → Sound before r acc log → (e : Edit E) → SoundEdit e → Next log e → e.id ∉ edit_ids r.shelf
@@ -107,7 +107,7 @@ module _ {E : Type 0} {before : Id → Id → Bool} where
     accepted = λ d. ((λ m. there_now d (in_snoc acc e m)), back d);
     sizes = let l = length-append r.shelf (e ∷ []) in let k = length-append acc (e ∷ []) in let z = S.sizes in omega (arith, l, k, z);
     slots = let q : length (keep inserts (r.shelf ++ (e ∷ []))) ≡ length (keep inserts r.shelf) + one_if (inserts e) = kept in omega (arith, q, slot);
-    room = let lt = leb_lt r.room (length r.shelf) room in let l = length-append r.shelf (e ∷ []) in omega (arith, lt, l);
+    room = let lt = leb-false r.room (length r.shelf) room in let l = length-append r.shelf (e ∷ []) in omega (arith, lt, l);
     editors = S.editors;
   }
     where
@@ -216,8 +216,8 @@ module _ {E : Type 0} {before : Id → Id → Bool} where
     -- no own edit waits
     own_new : (c : Change E) → own_waits r ≡ false → (new_edit i log c).id ∉ edit_ids r.shelf
     own_new c t m = let u = of_ids r.shelf m in
-        not_both (subst (λ (n : ℕ). eqb u.0.id.editor n ≡ true) (ap (λ (b : Id). b.editor) u.2 ∙ sym (own_is r i owner)) (eqb_same u.0.id.editor))
-        (any_false (λ (d : Edit E). eqb d.id.editor (own r)) r.shelf t u.0 u.1)
+        both_ways _ (any_false (λ (d : Edit E). eqb d.id.editor (own r)) r.shelf t u.0 u.1)
+        (eq-eqb u.0.id.editor (own r) (ap (λ (b : Id). b.editor) u.2 ∙ sym (own_is r i owner)))
 
     -- the log goes on from the edit that was made
     pub record Edits (p : Replica E × Reply E) : Type 0 where
@@ -251,7 +251,7 @@ module _ {E : Type 0} {before : Id → Id → Bool} where
 
     pub delete_edits : Settled r → (k : ℕ) → Edits (delete before k r)
     delete_edits rest k = commits rest (own_deletion k r) (deletion_at k (tree before log)) (ap (λ (m : Making E). m.edit) (deletion_is k))
-        (used_up r) (leb (length (visible r.forest)) k) false (λ t. deletion_lawful before S.history i k (shorter (leb_lt (length (visible r.forest)) k t))) (λ t. refl)
+        (used_up r) (leb (length (visible r.forest)) k) false (λ t. deletion_lawful before S.history i k (shorter (leb-false (length (visible r.forest)) k t))) (λ t. refl)
         (no_delete k r) (allowed_by (next_id r) (own_waits r) (used_up r) (leb (length (visible r.forest)) k) false)
       where
         shorter : k < length (visible r.forest) → k < length (visible (tree before log))

@@ -1,5 +1,6 @@
 -- The format `numbers` keeps its law: what is written is read back, ghost fields included, since a test passes in one way only.
-use Rattle.std.proofs.Common.{◌≡◌, ℕ, zero, suc, ◌+◌, ◌≤◌, Bool, true, false, eqb, leb, List, [], ◌∷◌, length, Some, None, Option, sym, refl, ap, ◌∙◌, subst, arith}
+use Rattle.std.proofs.Common.{◌≡◌, ℕ, zero, suc, ◌+◌, ◌≤◌, Bool, true, false, eqb, leb, List, [], ◌∷◌, length, Some, None, Option, sym, refl, ap, ◌∙◌, subst, arith, eqb-true, leb-true}
+use Rattle.std.proofs.lemmas.Bool.{and_parts}
 use Rattle.std.specs.List.{list_all}
 use mathlib.Core.Bool.{false≢true, Bool-set}
 use Rattle.edits.specs.declared.id.Id.{Id}
@@ -12,7 +13,6 @@ use Rattle.edits.specs.declared.edit.Stamp.{Stamp}
 use Rattle.edits.specs.declared.edit.Edit.{Edit as Carried}
 use Rattle.edits.specs.declared.edit.Edit.TheVariants.{Insertion, Deletion}
 use Rattle.order.specs.Lists.{◌∈◌, here, there}
-use Rattle.order.proofs.Ids.{and_true, eqb_eq, leb_le}
 use Rattle.order.proofs.Lists.{in_nil}
 use Rattle.edits.specs.Clocks.{pairs_of}
 use Rattle.edits.specs.Rules.{parent_kept, covers}
@@ -71,8 +71,8 @@ pairs_long (p ∷ ps) = let rest = pairs_long ps in omega arith
 stamp_long : (s : Stamp) → length (put_stamp s) ≡ 35
 stamp_long s =
     let c = s.clock in
-    let test = (and_true (eqb (length c.pairs) 16) _ (stamp_rules s).1).0 in
-    let all : length c.pairs ≡ 16 = eqb_eq (length c.pairs) 16 test in
+    let test = (and_parts (eqb (length c.pairs) 16) _ (stamp_rules s).1).0 in
+    let all : length c.pairs ≡ 16 = eqb-true (length c.pairs) 16 test in
     let flat = pairs_long c.pairs in
     omega arith
 
@@ -95,10 +95,10 @@ small_bytes [] t b m = absurd (in_nil m)
 small_bytes (n ∷ r) t b m = go m (small_bytes r both.1 b)
   where
     both : (leb n 255 ≡ true) × (list_all (λ n. leb n 255) r ≡ true)
-    both = and_true (leb n 255) (list_all (λ n. leb n 255) r) t
+    both = and_parts (leb n 255) (list_all (λ n. leb n 255) r) t
 
     go : b ∈ (n ∷ r) → (b ∈ r → b ≤ 255) → b ≤ 255
-    go (here p) ih = subst (λ (k : ℕ). k ≤ 255) (sym p) (leb_le n 255 both.0)
+    go (here p) ih = subst (λ (k : ℕ). k ≤ 255) (sym p) (leb-true n 255 both.0)
     go (there k) ih = ih k
 
 -- HOW MANY EDITS ARE READ

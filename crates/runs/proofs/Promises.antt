@@ -1,5 +1,6 @@
 -- The promises hold of every run.
-use Rattle.std.proofs.Common.{◌≡◌, ℕ, zero, suc, ◌-◌, ◌<◌, ◌≤◌, Bool, true, false, not, ◌&&◌, eqb, ◌⊎◌, ◌↔◌, List, [], ◌∷◌, ◌++◌, map, length, Some, None, Option, sym, refl, ap, ◌∙◌, subst, inl, inr, arith}
+use Rattle.std.proofs.Common.{◌≡◌, ℕ, zero, suc, ◌-◌, ◌<◌, ◌≤◌, Bool, true, false, not, ◌&&◌, eqb, ◌⊎◌, ◌↔◌, List, [], ◌∷◌, ◌++◌, map, length, Some, None, Option, sym, refl, ap, ◌∙◌, subst, inl, inr, arith, eqb-true}
+use Rattle.std.proofs.lemmas.Bool.{both_ways, cases_Bool, false_from_ne_true}
 use Rattle.std.proofs.lemmas.List.{map-append}
 use Rattle.edits.specs.declared.id.Id.{Id}
 use Rattle.edits.specs.declared.fault.Fault.{Fault}
@@ -11,7 +12,6 @@ use Rattle.order.specs.Forests.{Entry, read, visible, apply, tree}
 use Rattle.order.specs.Histories.{count, stands, as_shown, standing, deletes}
 use Rattle.order.specs.Systems.{Making, making_edit, edits_of}
 use Rattle.order.specs.Theorems.{PutAt, HiddenAt}
-use Rattle.order.proofs.Ids.{not_both, not_true, eqb_eq, either}
 use Rattle.order.proofs.Lists.{any_true, in_left, keep_alike, any_same, of_map}
 use Rattle.order.proofs.Histories.{in_ids, one_each, count_part, counted, ids_sub}
 use Rattle.order.proofs.Systems.{Facts, facts, becomes_entry}
@@ -34,7 +34,7 @@ release_none {E} before (suc n) r rest = go (pick (ready r) r.shelf) (picks (rea
   where
     go : (k : Pick E) → Picks (ready r) r.shelf k → go_on before k r (release before n) ≡ r
     go nothing k = refl
-    go (picked e others) k = absurd (not_both k.passes (rest e k.member))
+    go (picked e others) k = absurd (both_ways _ (rest e k.member) k.passes)
 
 edit_more : {E X : Type 0} (v : World E X) (ms : List (Making E)) → edits_of v.makings ⊆ edits_of (v.makings ++ ms)
 edit_more {E} v ms e m = subst (λ (l : List (Edit E)). e ∈ l) (sym (map-append making_edit v.makings ms)) (in_left (edits_of v.makings) (edits_of ms) m)
@@ -113,12 +113,12 @@ module _ {E X : Type 0} {before : Id → Id → Bool} (O : Order before) (meanin
 
   -- no edit that waits has waited for an edit that is made just now
   nothing_waited : (i : ℕ) (e : Edit E) → e.id.editor ≡ i → Settled (applied before e (w.replicas i))
-  nothing_waited i e own d m = not_true (ready (applied before e (w.replicas i)) d) (λ t. not_both
-      (each_within 255 d.clock (w.replicas i).clock (λ j l u. still t j l u (either (eqb j e.id.editor)))) (S.settled i d m))
+  nothing_waited i e own d m = false_from_ne_true (ready (applied before e (w.replicas i)) d) (λ t. both_ways _ (S.settled i d m)
+      (each_within 255 d.clock (w.replicas i).clock (λ j l u. still t j l u (cases_Bool (eqb j e.id.editor)))))
     where
       still : ready (applied before e (w.replicas i)) d ≡ true → (j : ℕ) → 1 ≤ j → j ≤ 255 → (eqb j e.id.editor ≡ true) ⊎ (eqb j e.id.editor ≡ false)
           → d.clock j ≤ (w.replicas i).clock j
-      still t j l u (inl q) = subst (λ (n : ℕ). d.clock n ≤ (w.replicas i).clock n) (sym (eqb_eq j e.id.editor q ∙ own)) (made_bound d (S.honest i d (((S.sound i).accepted d).1 (inr m))) i)
+      still t j l u (inl q) = subst (λ (n : ℕ). d.clock n ≤ (w.replicas i).clock n) (sym (eqb-true j e.id.editor q ∙ own)) (made_bound d (S.honest i d (((S.sound i).accepted d).1 (inr m))) i)
       still t j l u (inr q) = rw q at (within_each 255 d.clock (applied before e (w.replicas i)).clock t j l u)
 
   none_released : (i : ℕ) (e : Edit E) → e.id.editor ≡ i → settled before e (w.replicas i) ≡ applied before e (w.replicas i)
@@ -158,7 +158,7 @@ module _ {E X : Type 0} {before : Id → Id → Bool} (O : Order before) (meanin
       none (d ∷ es) out = absurd (out d (here refl))
 
   no_own_waits : (i : ℕ) → own_waits (w.replicas i) ≡ false
-  no_own_waits i = not_true (own_waits (w.replicas i)) (λ t. out (any_true (λ (e : Edit E). eqb e.id.editor (own (w.replicas i))) (w.replicas i).shelf t))
+  no_own_waits i = false_from_ne_true (own_waits (w.replicas i)) (λ t. out (any_true (λ (e : Edit E). eqb e.id.editor (own (w.replicas i))) (w.replicas i).shelf t))
     where
       out : (d : Edit E) × (d ∈ (w.replicas i).shelf) × (eqb d.id.editor (own (w.replicas i)) ≡ true) → ⊥
       out u = ((S.sound i).waiting u.0 u.1).1 ((counted (F.each i)).full u.0.id (c.0, subst (λ (n : ℕ). u.0.id.number ≤ n) (sym same_count) c.1))
@@ -167,7 +167,7 @@ module _ {E X : Type 0} {before : Id → Id → Bool} (O : Order before) (meanin
           c = (counted F.all).within u.0.id (in_ids (edits_of w.makings) (S.honest i u.0 (((S.sound i).accepted u.0).1 (inr u.1))))
 
           same_count : count (S.logs i) u.0.id.editor ≡ count (edits_of w.makings) u.0.id.editor
-          same_count = subst (λ (j : ℕ). count (S.logs i) j ≡ count (edits_of w.makings) j) (sym (eqb_eq u.0.id.editor (own (w.replicas i)) u.2 ∙ own_number i)) (F.own i)
+          same_count = subst (λ (j : ℕ). count (S.logs i) j ≡ count (edits_of w.makings) j) (sym (eqb-true u.0.id.editor (own (w.replicas i)) u.2 ∙ own_number i)) (F.own i)
 
   pub kept : Kept before meaning w
   unfolding F

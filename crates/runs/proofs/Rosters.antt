@@ -1,11 +1,11 @@
 -- On the roster of a replica stand its own editor and the editors of all edits that it has accepted.
-use Rattle.std.proofs.Common.{◌≡◌, ℕ, Bool, true, false, cond, eqb, ltb, ◌⊎◌, ◌↔◌, List, [], ◌∷◌, ◌++◌, length, Some, None, Option, sym, refl, ap, ◌∙◌, subst, inl, inr, append_assoc, append-nil}
+use Rattle.std.proofs.Common.{◌≡◌, ℕ, Bool, true, false, cond, eqb, ltb, ◌⊎◌, ◌↔◌, List, [], ◌∷◌, ◌++◌, length, Some, None, Option, sym, refl, ap, ◌∙◌, subst, inl, inr, append_assoc, append-nil, eqb-true}
+use Rattle.std.proofs.lemmas.Bool.{cases_Bool}
 use Rattle.edits.specs.declared.id.Id.{Id}
 use Rattle.edits.specs.declared.fault.Fault.{Fault}
 use Rattle.order.specs.Lists.{◌∈◌, here, there}
 use Rattle.order.specs.Edits.{Edit}
 use Rattle.order.specs.Systems.{Making, edits_of}
-use Rattle.order.proofs.Ids.{either, eqb_eq}
 use Rattle.order.proofs.Lists.{any_true, in_left, in_last, in_snoc, in_nil}
 use Rattle.runs.specs.Replicas.{Replica, new, placed, with_shelf, listed, enrolled, Verdict, knows, refuses, applies, shelves, Answer, known, refused, taken, verdict, applied, release, judge, take_in, commit, after_one, take_all}
 use Rattle.runs.specs.Worlds.{made_by}
@@ -45,10 +45,10 @@ joins_listed i js m j = ((λ n. inl n), λ n. elim n [ inl a ↦ a | inr p ↦ s
 
 module _ {E : Type 0} where
   enrolled_joins : (e : Edit E) (r : Replica E) → Joins e.id.editor r.roster (enrolled e r).roster
-  enrolled_joins e r = go (either (listed r e.id.editor))
+  enrolled_joins e r = go (cases_Bool (listed r e.id.editor))
     where
       at : listed r e.id.editor ≡ true → e.id.editor ∈ r.roster
-      at t = let u = any_true (eqb e.id.editor) r.roster t in subst (λ (k : ℕ). k ∈ r.roster) (sym (eqb_eq e.id.editor u.0 u.2)) u.1
+      at t = let u = any_true (eqb e.id.editor) r.roster t in subst (λ (k : ℕ). k ∈ r.roster) (sym (eqb-true e.id.editor u.0 u.2)) u.1
 
       go : (listed r e.id.editor ≡ true) ⊎ (listed r e.id.editor ≡ false) → Joins e.id.editor r.roster (cond (listed r e.id.editor) r.roster (placed e.id.editor r.roster))
       go (inl t) = rw t (joins_listed e.id.editor r.roster (at t))

@@ -1,5 +1,6 @@
 -- Every run of the calls is one of replicas that make edits and take them in: each replica has a log of what it applied.
-use Rattle.std.proofs.Common.{◌≡◌, ℕ, zero, suc, ◌<◌, ◌≤◌, Bool, true, false, cond, eqb, ltb, leb, ◌⊎◌, List, [], ◌∷◌, ◌++◌, map, length, get_or, take, drop, Some, None, Option, sym, refl, ap, ◌∙◌, subst, inl, inr, append_assoc, append-nil}
+use Rattle.std.proofs.Common.{◌≡◌, ℕ, zero, suc, ◌<◌, ◌≤◌, Bool, true, false, cond, eqb, ltb, leb, ◌⊎◌, List, [], ◌∷◌, ◌++◌, map, length, get_or, take, drop, Some, None, Option, sym, refl, ap, ◌∙◌, subst, inl, inr, append_assoc, append-nil, ltb-false, eq-eqb, eqb-true, leb-false}
+use Rattle.std.proofs.lemmas.Bool.{both_ways, cases_Bool}
 use mathlib.Core.Path.{fun_ext}
 use Rattle.std.proofs.lemmas.List.{map-append}
 use Rattle.edits.specs.declared.id.Id.{Id}
@@ -10,7 +11,6 @@ use Rattle.order.specs.Forests.{Forest, visible, tree}
 use Rattle.order.specs.Placing.{insertion_at, deletion_at}
 use Rattle.order.specs.Histories.{Next}
 use Rattle.order.specs.Systems.{Making, making_edit, edits_of, new_edit, extended, insertion_made, deletion_made, Reached, begin, inserts, deletes, takes_in}
-use Rattle.order.proofs.Ids.{either, not_both, eqb_eq, eqb_same, leb_lt, ltb_le}
 use Rattle.order.proofs.Lists.{in_left, in_split, in_snoc, in_last, in_getD, of_map, at_it, at_other, at_each}
 use Rattle.order.proofs.Making.{insertion_lawful, deletion_lawful}
 use Rattle.runs.specs.Replicas.{Editor, Replica, new, declined, edited, own_waits, used_up, next_id, full, no_insert, no_delete, own_insertion, own_deletion, settled, applied_with, commit, insert, delete, Intake, take_all}
@@ -27,10 +27,10 @@ use Rattle.runs.proofs.Keeping.{commit_editor, take_all_editor, take_all_sub, Fe
 
 -- functions replaced at a place
 pub at_same : {X : Type 0} (f : ℕ → X) (i : ℕ) → with_at f i (f i) ≡ f
-at_same f i = fun_ext (λ j. go j (either (eqb j i)))
+at_same f i = fun_ext (λ j. go j (cases_Bool (eqb j i)))
   where
     go : (j : ℕ) → (eqb j i ≡ true) ⊎ (eqb j i ≡ false) → with_at f i (f i) j ≡ f j
-    go j (inl t) = ap (λ (b : Bool). cond b (f i) (f j)) t ∙ ap f (sym (eqb_eq j i t))
+    go j (inl t) = ap (λ (b : Bool). cond b (f i) (f j)) t ∙ ap f (sym (eqb-true j i t))
     go j (inr t) = ap (λ (b : Bool). cond b (f i) (f j)) t
 
 at_all : {X : Type 0} (P : X → Type 0) (f : ℕ → X) (i : ℕ) (x : X) → P x → ((j : ℕ) → P (f j)) → (j : ℕ) → P (with_at f i x j)
@@ -38,11 +38,11 @@ at_all P f i x it others j = elim (eqb j i) as (λ b. P (cond b x (f j))) [ true
 
 at_two : {X Y : Type 0} (P : ℕ → X → Y → Type 0) (f : ℕ → X) (g : ℕ → Y) (i : ℕ) (x : X) (y : Y)
     → P i x y → ((j : ℕ) → (j ≡ i → ⊥) → P j (f j) (g j)) → (j : ℕ) → P j (with_at f i x j) (with_at g i y j)
-at_two P f g i x y it others j = go (either (eqb j i))
+at_two P f g i x y it others j = go (cases_Bool (eqb j i))
   where
     go : (eqb j i ≡ true) ⊎ (eqb j i ≡ false) → P j (with_at f i x j) (with_at g i y j)
-    go (inl t) = subst (λ (b : Bool). P j (cond b x (f j)) (cond b y (g j))) (sym t) (subst (λ (n : ℕ). P n x y) (sym (eqb_eq j i t)) it)
-    go (inr t) = subst (λ (b : Bool). P j (cond b x (f j)) (cond b y (g j))) (sym t) (others j (λ p. not_both (subst (λ (n : ℕ). eqb n i ≡ true) (sym p) (eqb_same i)) t))
+    go (inl t) = subst (λ (b : Bool). P j (cond b x (f j)) (cond b y (g j))) (sym t) (subst (λ (n : ℕ). P n x y) (sym (eqb-true j i t)) it)
+    go (inr t) = subst (λ (b : Bool). P j (cond b x (f j)) (cond b y (g j))) (sym t) (others j (λ p. both_ways _ t (subst (λ (n : ℕ). eqb n i ≡ true) (sym p) (eq-eqb i i refl))))
 
 in_take : {X : Type 0} (n : ℕ) (xs : List X) → take n xs ⊆ xs
 in_take zero xs x m = elim m [ ]
@@ -210,7 +210,7 @@ module _ {E X : Type 0} (before : Id → Id → Bool) (meaning : X → Edit E) w
 
         short : (o : Option Fault) → Allowed (own_waits r) (used_up r) (ltb (length (visible r.forest)) k) (full r) o → o ≡ None → k ≤ length (visible r.forest)
         short (Some f) a q = absurd (none_some q)
-        short None a q = ltb_le (length (visible r.forest)) k a.2
+        short None a q = ltb-false (length (visible r.forest)) k a.2
 
         reach : no_insert k r ≡ None → Reached before (w.makings ++ (own_insertion k x r ∷ [])) (extended S.logs i (own_insertion k x r).edit) × Lawful (new_edit i (S.logs i) (insertion_at k x (tree before (S.logs i))))
         reach q = (
@@ -231,7 +231,7 @@ module _ {E X : Type 0} (before : Id → Id → Bool) (meaning : X → Edit E) w
 
         short : (o : Option Fault) → Allowed (own_waits r) (used_up r) (leb (length (visible r.forest)) k) false o → o ≡ None → k < length (visible r.forest)
         short (Some f) a q = absurd (none_some q)
-        short None a q = leb_lt (length (visible r.forest)) k a.2
+        short None a q = leb-false (length (visible r.forest)) k a.2
 
         within : no_delete k r ≡ None → k < length (visible (tree before (S.logs i)))
         within q = subst (λ (f : Forest E). k < length (visible f)) (S.sound i).forest

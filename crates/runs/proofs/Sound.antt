@@ -1,5 +1,6 @@
 -- What every call at one replica keeps, whatever edits come in.
-use Rattle.std.proofs.Common.{◌≡◌, ℕ, zero, suc, ◌+◌, ◌≤◌, Bool, true, false, eqb, leb, ◌⊎◌, ◌↔◌, List, [], ◌∷◌, ◌++◌, length, sym, refl, ap, ◌∙◌, subst, inl, inr, arith, length-append}
+use Rattle.std.proofs.Common.{◌≡◌, ℕ, zero, suc, ◌+◌, ◌≤◌, Bool, true, false, eqb, leb, ◌⊎◌, ◌↔◌, List, [], ◌∷◌, ◌++◌, length, sym, refl, ap, ◌∙◌, subst, inl, inr, arith, length-append, eq-eqb, eqb-true, leb-false}
+use Rattle.std.proofs.lemmas.Bool.{both_ways, cases_Bool, or_parts}
 use mathlib.Core.Path.{fun_ext}
 use lib.ListN.{length-map}
 use Rattle.edits.specs.declared.id.Id.{Id}
@@ -9,7 +10,7 @@ use Rattle.order.specs.Lists.{◌∈◌, ◌∉◌, keep, with_at}
 use Rattle.order.specs.Edits.{Clock, Change, insertion, deletion, Edit, Covers, is_insertion}
 use Rattle.order.specs.Forests.{Entry, Forest, read, ids, hide, apply, tree}
 use Rattle.order.specs.Histories.{edit_ids, count, Next, History, more}
-use Rattle.order.proofs.Ids.{either, not_both, or_false, eqb_eq, eqb_same, eq_same, leb_lt}
+use Rattle.order.proofs.Ids.{eq_same}
 use Rattle.order.proofs.Lists.{any_false, in_left, in_last, in_snoc, Distinct, in_nil}
 use Rattle.order.proofs.Growing.{Effect, grew_length, effect}
 use Rattle.order.proofs.Histories.{tree_snoc, in_ids, of_ids, ids_snoc, count_own, count_other, counted, next_number}
@@ -87,14 +88,14 @@ module _ {E : Type 0} where
     unknown_new e t = ((λ m. not_applied ((counted S.history).within e.id m)), λ m. not_waiting (of_ids r.shelf m))
       where
         both : (leb e.id.number (r.clock e.id.editor) ≡ false) × (waits r e.id ≡ false)
-        both = or_false (leb e.id.number (r.clock e.id.editor)) (waits r e.id) t
+        both = or_parts (leb e.id.number (r.clock e.id.editor)) (waits r e.id) t
 
         not_applied : Covers (count log) e.id → ⊥
-        not_applied c = let gt = leb_lt e.id.number (r.clock e.id.editor) both.0 in
+        not_applied c = let gt = leb-false e.id.number (r.clock e.id.editor) both.0 in
             let q = count_clock e.id.editor in let le = c.1 in omega (arith, gt, q, le)
 
         not_waiting : (d : Edit E) × (d ∈ r.shelf) × (d.id ≡ e.id) → ⊥
-        not_waiting u = not_both (eq_same u.0.id e.id u.2) (any_false (λ (d : Edit E). same d.id e.id) r.shelf both.1 u.0 u.1)
+        not_waiting u = both_ways _ (any_false (λ (d : Edit E). same d.id e.id) r.shelf both.1 u.0 u.1) (eq_same u.0.id e.id u.2)
 
     -- e is applied, and others are left on the shelf
     apply_one : (e : Edit E) (others acc' : List (Edit E)) → SoundEdit e → Next log e
@@ -106,7 +107,7 @@ module _ {E : Type 0} where
     apply_one e others acc' s n sub apart out same-acc sizes slot few = record {
       history = more e S.history s.lawful n;
       forest = ap (apply before e) S.forest ∙ sym (tree_snoc before log e);
-      clock = fun_ext (λ i. at i (either (eqb i e.id.editor)));
+      clock = fun_ext (λ i. at i (cases_Bool (eqb i e.id.editor)));
       makers = λ d m. maker d (in_snoc log e m);
       waiting = λ d m. ((S.waiting d (sub d m)).0, λ k. not_there d m (ids_snoc log e k));
       apart = apart;
@@ -121,8 +122,8 @@ module _ {E : Type 0} where
         grown = effect before e.id e.change r.forest (subst (λ (f : Forest E). Distinct (ids f)) (sym S.forest) (entries before S.history).distinct)
 
         at : (i : ℕ) → (eqb i e.id.editor ≡ true) ⊎ (eqb i e.id.editor ≡ false) → with_at r.clock e.id.editor e.id.number i ≡ count (log ++ (e ∷ [])) i
-        at i (inl t) = rw t (next_number (counted S.history) e s.lawful n ∙ sym (count_own log e) ∙ ap (count (log ++ (e ∷ []))) (sym (eqb_eq i e.id.editor t)))
-        at i (inr t) = rw t (count_clock i ∙ sym (count_other log e i (λ p. not_both (eqb_same i) (subst (λ (j : ℕ). eqb i j ≡ false) p t))))
+        at i (inl t) = rw t (next_number (counted S.history) e s.lawful n ∙ sym (count_own log e) ∙ ap (count (log ++ (e ∷ []))) (sym (eqb-true i e.id.editor t)))
+        at i (inr t) = rw t (count_clock i ∙ sym (count_other log e i (λ p. both_ways _ (subst (λ (j : ℕ). eqb i j ≡ false) p t) (eq-eqb i i refl))))
 
         maker : (d : Edit E) → (d ∈ log) ⊎ (d ≡ e) → Editor d.id.editor
         maker d (inl m) = S.makers d m

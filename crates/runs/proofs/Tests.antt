@@ -1,11 +1,11 @@
 -- What the tests of a replica say.
-use Rattle.std.proofs.Common.{◌≡◌, ℕ, zero, suc, ◌+◌, ◌≤◌, Bool, true, false, cond, leb, ◌⊎◌, List, [], ◌∷◌, length, Some, None, Option, refl, ap, ◌∙◌, subst, inl, inr, arith}
+use Rattle.std.proofs.Common.{◌≡◌, ℕ, zero, suc, ◌+◌, ◌≤◌, Bool, true, false, cond, leb, ◌⊎◌, List, [], ◌∷◌, length, Some, None, Option, refl, ap, ◌∙◌, subst, inl, inr, arith, le-leb, leb-false, leb-true}
+use Rattle.std.proofs.lemmas.Bool.{cases_Bool, and_parts}
 use Rattle.edits.specs.declared.id.Id.{Id}
 use Rattle.edits.specs.declared.fault.Fault.{Fault}
 use Rattle.order.specs.Lists.{◌∈◌, here, there, ◌∉◌, keep}
 use Rattle.order.specs.Edits.{Clock, Edit}
 use Rattle.order.specs.Histories.{edit_id, edit_ids}
-use Rattle.order.proofs.Ids.{either, and_true, leb_le, le_leb, leb_lt}
 use Rattle.order.proofs.Lists.{in_map, Distinct}
 use Rattle.order.proofs.Histories.{ids_sub}
 use Rattle.runs.specs.Replicas.{within, placed, inserts, Verdict, knows, refuses, applies, shelves, Pick, nothing, picked, behind, pick, judged, barred}
@@ -14,19 +14,19 @@ use Rattle.runs.specs.Replicas.{within, placed, inserts, Verdict, knows, refuses
 pub within_each : (n : ℕ) (a b : Clock) → within n a b ≡ true → (i : ℕ) → 1 ≤ i → i ≤ n → a i ≤ b i
 unfolding within
 within_each zero a b t i l u = let no : ⊥ = omega arith in absurd no
-within_each (suc n) a b t i l u = go (either (leb i n)) (within_each n a b)
+within_each (suc n) a b t i l u = go (cases_Bool (leb i n)) (within_each n a b)
   where
     both : (leb (a (suc n)) (b (suc n)) ≡ true) × (within n a b ≡ true)
-    both = and_true (leb (a (suc n)) (b (suc n))) (within n a b) t
+    both = and_parts (leb (a (suc n)) (b (suc n))) (within n a b) t
 
     go : (leb i n ≡ true) ⊎ (leb i n ≡ false) → (within n a b ≡ true → (j : ℕ) → 1 ≤ j → j ≤ n → a j ≤ b j) → a i ≤ b i
-    go (inl k) ih = ih both.1 i l (leb_le i n k)
-    go (inr k) ih = let gt = leb_lt i n k in let last : suc n ≡ i = omega (arith, gt, u) in subst (λ (j : ℕ). a j ≤ b j) last (leb_le (a (suc n)) (b (suc n)) both.0)
+    go (inl k) ih = ih both.1 i l (leb-true i n k)
+    go (inr k) ih = let gt = leb-false i n k in let last : suc n ≡ i = omega (arith, gt, u) in subst (λ (j : ℕ). a j ≤ b j) last (leb-true (a (suc n)) (b (suc n)) both.0)
 
 pub each_within : (n : ℕ) (a b : Clock) → ((i : ℕ) → 1 ≤ i → i ≤ n → a i ≤ b i) → within n a b ≡ true
 unfolding within
 each_within zero a b f = refl
-each_within (suc n) a b f = rw (le_leb (a (suc n)) (b (suc n)) (f (suc n) (omega arith) (omega arith))) (each_within n a b (λ i l u. f i l (omega arith)))
+each_within (suc n) a b f = rw (le-leb (a (suc n)) (b (suc n)) (f (suc n) (omega arith) (omega arith))) (each_within n a b (λ i l u. f i l (omega arith)))
 
 pub placed_length : (i : ℕ) (js : List ℕ) → length (placed i js) ≡ suc (length js)
 placed_length i [] = refl

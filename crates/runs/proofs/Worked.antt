@@ -1,12 +1,12 @@
 -- The worked run, by computing.
-use Rattle.std.proofs.Common.{◌≡◌, ℕ, suc, ◌-◌, ◌<◌, ◌≤◌, Bool, true, false, cond, eqb, leb, ◌⊎◌, List, [], ◌∷◌, ◌++◌, map, length, get_or, set, Some, sym, refl, ap, ◌∙◌, subst, inl, inr, arith}
+use Rattle.std.proofs.Common.{◌≡◌, ℕ, suc, ◌-◌, ◌<◌, ◌≤◌, Bool, true, false, cond, eqb, leb, ◌⊎◌, List, [], ◌∷◌, ◌++◌, map, length, get_or, set, Some, sym, refl, ap, ◌∙◌, subst, inl, inr, arith, eq-eqb, ne_eqb, eqb-true}
+use Rattle.std.proofs.lemmas.Bool.{both_ways, cases_Bool}
 use mathlib.Core.Path.{fun_ext}
 use Rattle.edits.specs.declared.edit.Edit.{Edit as Carried}
 use Rattle.edits.specs.Ids.{precedes}
 use Rattle.order.specs.Lists.{◌∈◌, here, there, with_at}
 use Rattle.order.specs.Edits.{Clock, Edit}
 use Rattle.order.specs.Systems.{edits_of}
-use Rattle.order.proofs.Ids.{either, eqb_eq, eqb_same, eqb_apart, not_both}
 use Rattle.runs.specs.Replicas.{within, new, insert, delete, take_all}
 use Rattle.runs.specs.Channels.{Bytes, Channel, AllFit, Put, uncut, one_cut, none_put, one_put, Sent}
 use Rattle.runs.specs.Worlds.{World, Fresh, after_edit, after_send, after_fetch, inserts, deletes, sends, fetches, no_call, then}
@@ -67,11 +67,11 @@ last = fetched again 3 third
 
 -- The clock of a made edit tests whether the editor asked for is 1, that of a carried edit whether 1 is the editor asked for.
 turned : (i j : ℕ) → eqb i j ≡ eqb j i
-turned i j = go (either (eqb j i))
+turned i j = go (cases_Bool (eqb j i))
   where
     go : (eqb j i ≡ true) ⊎ (eqb j i ≡ false) → eqb i j ≡ eqb j i
-    go (inl e) = rw (eqb_eq j i e) refl
-    go (inr e) = rw (e, eqb_apart i j (λ p. not_both (subst (λ (k : ℕ). eqb j k ≡ true) (sym p) (eqb_same j)) e))
+    go (inl e) = rw (eqb-true j i e) refl
+    go (inr e) = rw (e, ne_eqb i j (λ p. both_ways _ e (subst (λ (k : ℕ). eqb j k ≡ true) (sym p) (eq-eqb j j refl))))
 
 -- a later count of the same editor replaces an earlier one
 replaced : (b : Bool) (m n : ℕ) → cond b n (cond b m 0) ≡ cond b n 0
