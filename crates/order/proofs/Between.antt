@@ -1,5 +1,6 @@
 -- What is below an entry on a side stands together, next to the entry; and whether an entry has a right child.
 use Rattle.std.proofs.Common.{◌≡◌, Bool, true, false, ◌&&◌, ◌||◌, ◌⊎◌, List, [], ◌∷◌, ◌++◌, Some, sym, refl, ap, ◌∙◌, subst, inl, inr, append_assoc, append-nil}
+use Rattle.std.proofs.lemmas.Option.{same_Some}
 use Rattle.std.proofs.lemmas.Bool.{and_parts, or_left, or_right}
 use mathlib.Core.Bool.{false≢true}
 use Rattle.edits.specs.declared.id.Id.{Id}
@@ -16,7 +17,7 @@ use Rattle.order.proofs.Ids.{same_eq, eq_same}
 use Rattle.order.proofs.Lists.{in_left, in_right, in_split, in_nil, in_snoc, Distinct, distinct_across}
 use Rattle.order.proofs.Lists.{before_left, before_right, before_later, before_earlier, before_across, before_once}
 use Rattle.order.proofs.Nodes.{ids_node, Place, it, lefts, rights, nexts, place, placed, Apart, apart}
-use Rattle.order.proofs.Beside.{some_eq, first_some, after_it}
+use Rattle.order.proofs.Beside.{first_some, after_it}
 use Rattle.order.proofs.Under.{side_of, Under, under_in, under_of, under_stays, under_new, ids_stay, ids_new}
 
 -- identifiers that belong to b on a side, and b itself, as they are read
@@ -257,7 +258,7 @@ module _ {E : Type 0} where
           (λ m. distinct_across F.ahead (b ∷ (F.kids ++ F.behind)) (subst Distinct F.reads d) m (here refl))
 
   pub follower_under : (b : Id) (f : Forest E) → Distinct (ids f) → has_right b f ≡ true → (a : Id) → after b (ids f) ≡ Some a → Under Right b f a
-  follower_under b f d h a e = let k = followed b f d h in subst (Under Right b f) (some_eq (sym k.1 ∙ e)) k.2
+  follower_under b f d h a e = let k = followed b f d h in subst (Under Right b f) (same_Some _ _ (sym k.1 ∙ e)) k.2
 
   module _ (before : Id → Id → Bool) where
     pub has_right_stays : (i : Id) (c : Change E) (p : Parent) (f : Forest E) → has_right_child p f ≡ true → has_right_child p (change before i c f) ≡ true

@@ -1,6 +1,6 @@
 -- What holds of every history: lawful edits, each after all that its clock covers.
 use Rattle.std.proofs.Common.{◌≡◌, ℕ, zero, suc, ◌+◌, ◌≤◌, Bool, true, false, eqb, leb, ◌⊎◌, List, [], ◌∷◌, ◌++◌, sym, refl, ap, ◌∙◌, subst, inl, inr, arith, eq-eqb, ne_eqb, eqb-true, leb-false, leb-true}
-use Rattle.std.proofs.lemmas.Bool.{cases_Bool}
+use Rattle.std.proofs.lemmas.Bool.{cases_Bool, eqb-false}
 use mathlib.Core.Bool.{false≢true}
 use Rattle.std.proofs.lemmas.List.{map-append}
 use Rattle.edits.specs.declared.id.Id.{Id}
@@ -132,10 +132,7 @@ module _ {E : Type 0} where
       high : (a : Id) → Covers (count (h ++ (e ∷ []))) a → (eqb e.id.editor a.editor ≡ true) ⊎ (eqb e.id.editor a.editor ≡ false)
           → a ∈ edit_ids (h ++ (e ∷ []))
       high a c (inl t) = last a c (eqb-true e.id.editor a.editor t) (cases_Bool (leb a.number (count h a.editor)))
-      high a c (inr t) = ids_old h e (C.full a (c.0, subst (λ (n : ℕ). a.number ≤ n) (count_other h e a.editor (λ p. apart p)) c.1))
-        where
-          apart : e.id.editor ≡ a.editor → ⊥
-          apart p = false≢true (sym t ∙ subst (λ (n : ℕ). eqb e.id.editor n ≡ true) p (eq-eqb e.id.editor e.id.editor refl))
+      high a c (inr t) = ids_old h e (C.full a (c.0, subst (λ (n : ℕ). a.number ≤ n) (count_other h e a.editor (eqb-false e.id.editor a.editor t)) c.1))
 
   pub counted : {h : List (Edit E)} → History h → Counted h
   counted empty = record { within = λ a m. elim m [ ]; full = λ a c. absurd (none a c.0 c.1) }

@@ -1,13 +1,14 @@
 -- Members of lists, filters, lists without repetition, order of places, and functions replaced at a place.
 use Rattle.std.proofs.Common.{◌≡◌, ℕ, zero, suc, ◌<◌, Bool, true, false, cond, ◌&&◌, ◌||◌, eqb, ◌⊎◌, List, [], ◌∷◌, ◌++◌, map, length, get_or, sym, refl, ap, ◌∙◌, subst, inl, inr, arith, eq-eqb, ne_eqb, eqb-true}
-use Rattle.std.proofs.lemmas.Bool.{both_ways, cases_Bool, false_from_ne_true, or_cases, or_left, or_right}
+use Rattle.std.proofs.lemmas.Bool.{both_ways, cond-false, cond-true, cond_both, eqb-false, false_from_ne_true, or_cases, or_left, or_right}
+use Rattle.std.specs.Cmp.{both_ways as same_test}
 use Rattle.std.proofs.Math.Bool.{or_assoc}
 use mathlib.Core.Bool.{false≢true}
 use mathlib.Core.Logic.{⊎_map}
 use Rattle.edits.specs.declared.id.Id.{Id}
 use Rattle.edits.specs.Ids.{same}
 use Rattle.order.specs.Lists.{◌∈◌, here, there, ◌∉◌, ◌⊆◌, keep, Before, with_at, any}
-use Rattle.order.proofs.Ids.{same_eq, eq_same}
+use Rattle.order.proofs.Ids.{same_eq, same_refl}
 
 module _ {A : Type 0} where
   pub in_left : {x : A} (xs ys : List A) → x ∈ xs → x ∈ (xs ++ ys)
@@ -119,14 +120,9 @@ module _ {A : Type 0} where
 
   -- lists with the same elements
   pub any_same : (p : A → Bool) (xs ys : List A) → xs ⊆ ys → ys ⊆ xs → any p xs ≡ any p ys
-  any_same p xs ys f g = alike (any p xs) (any p ys)
+  any_same p xs ys f g = same_test (any p xs) (any p ys)
       (λ t. let u = any_true p xs t in true_any p ys (f u.0 u.1) u.2)
       (λ t. let u = any_true p ys t in true_any p xs (g u.0 u.1) u.2)
-    where
-      alike : (a b : Bool) → (a ≡ true → b ≡ true) → (b ≡ true → a ≡ true) → a ≡ b
-      alike true b up down = sym (up refl)
-      alike false true up down = down refl
-      alike false false up down = refl
 
   -- no element twice
   abbrev pub Distinct : List A → Type 0
@@ -212,37 +208,24 @@ module _ {A B : Type 0} (f : A → B) where
 
 -- whether an identifier is in a list
 pub is_in : List Id → Id → Bool
-is_in [] a = false
-is_in (x ∷ xs) a = same x a || is_in xs a
+is_in xs a = any (λ (x : Id). same x a) xs
 
 pub is_in_true : (xs : List Id) (a : Id) → a ∈ xs → is_in xs a ≡ true
 unfolding is_in
-is_in_true [] a m = elim m [ ]
-is_in_true (x ∷ xs) a (here p) = or_left (same x a) (is_in xs a) (eq_same x a (sym p))
-is_in_true (x ∷ xs) a (there m) = or_right (same x a) (is_in xs a) (is_in_true xs a m)
+is_in_true xs a m = true_any (λ (x : Id). same x a) xs m (same_refl a)
 
 pub of_is_in : (xs : List Id) (a : Id) → is_in xs a ≡ true → a ∈ xs
 unfolding is_in
-of_is_in [] a t = absurd (false≢true t)
-of_is_in (x ∷ xs) a t = go (or_cases (same x a) (is_in xs a) t) (of_is_in xs a)
-  where
-    go : (same x a ≡ true) ⊎ (is_in xs a ≡ true) → (is_in xs a ≡ true → a ∈ xs) → a ∈ (x ∷ xs)
-    go (inl s) ih = here (sym (same_eq x a s))
-    go (inr s) ih = there (ih s)
+of_is_in xs a t = let u = any_true (λ (x : Id). same x a) xs t in subst (λ (b : Id). b ∈ xs) (same_eq u.0 a u.2) u.1
 
 -- a function replaced at a place
 module _ {X : Type 0} where
   pub at_it : (f : ℕ → X) (i : ℕ) (x : X) → with_at f i x i ≡ x
-  at_it f i x = ap (λ (b : Bool). cond b x (f i)) (eq-eqb i i refl)
+  at_it f i x = cond-true (eqb i i) x (f i) (eq-eqb i i refl)
 
   pub at_other : (f : ℕ → X) (i : ℕ) (x : X) (j : ℕ) → (j ≡ i → ⊥) → with_at f i x j ≡ f j
-  at_other f i x j ne = ap (λ (b : Bool). cond b x (f j)) (ne_eqb j i ne)
+  at_other f i x j ne = cond-false (eqb j i) x (f j) (ne_eqb j i ne)
 
   -- what holds of the new value and of the others
   pub at_each : (P : ℕ → X → Type 0) (f : ℕ → X) (i : ℕ) (x : X) → P i x → ((j : ℕ) → (j ≡ i → ⊥) → P j (f j)) → (j : ℕ) → P j (with_at f i x j)
-  at_each P f i x it others j = go (cases_Bool (eqb j i))
-    where
-      go : (eqb j i ≡ true) ⊎ (eqb j i ≡ false) → P j (with_at f i x j)
-      go (inl t) = subst (λ (b : Bool). P j (cond b x (f j))) (sym t) (subst (λ (n : ℕ). P n x) (sym (eqb-true j i t)) it)
-      go (inr t) = subst (λ (b : Bool). P j (cond b x (f j))) (sym t)
-          (others j (λ p. both_ways _ t (subst (λ (n : ℕ). eqb n i ≡ true) (sym p) (eq-eqb i i refl))))
+  at_each P f i x it others j = cond_both (eqb j i) x (f j) (P j) (λ t. subst (λ (n : ℕ). P n x) (sym (eqb-true j i t)) it) (λ t. others j (eqb-false j i t))

@@ -17,21 +17,6 @@ use Rattle.order.proofs.Nodes.{read_bury, hide_other}
 use Rattle.order.proofs.Beside.{first_in, after_in, beside, beside_absent}
 use Rattle.order.proofs.Hanging.{inserted_first, inserted_after}
 
--- the start is no entry
-abbrev IsEntry : Parent → Type 0
-IsEntry parent.Start = ⊥
-IsEntry (parent.Entry a) = Unit {0}
-
-start_entry : {b : Id} → parent.Start ≡ parent.Entry b → ⊥
-start_entry e = subst IsEntry (sym e) tt
-
-abbrev entry_of : Id → Parent → Id
-entry_of a parent.Start = a
-entry_of a (parent.Entry b) = b
-
-entry_eq : {a b : Id} → parent.Entry a ≡ parent.Entry b → a ≡ b
-entry_eq {a} e = ap (entry_of a) e
-
 -- what the two changes refer to
 module _ {E : Type 0} where
   ids_shown : (xs : List (Entry E)) (b : Id) → b ∈ map entry_id (keep is_shown xs) → b ∈ map entry_id xs
@@ -40,12 +25,12 @@ module _ {E : Type 0} where
 
   neighbour_in : (xs : List (Entry E)) (k : ℕ) (b : Id) → get_or (map (λ (x : Entry E). parent.Entry x.id) xs) k parent.Start ≡ parent.Entry b
       → b ∈ map entry_id xs
-  neighbour_in [] k b e = absurd (start_entry e)
-  neighbour_in (x ∷ xs) zero b e = here (sym (entry_eq e))
+  neighbour_in [] k b e = let no : ⊥ = cc in absurd no
+  neighbour_in (x ∷ xs) zero b e = here (cc)
   neighbour_in (x ∷ xs) (suc k) b e = there (neighbour_in xs k b e)
 
   pub left_neighbour_in : (f : Forest E) (k : ℕ) (b : Id) → left_neighbour k f ≡ parent.Entry b → b ∈ ids f
-  left_neighbour_in f zero b e = absurd (start_entry e)
+  left_neighbour_in f zero b e = let no : ⊥ = cc in absurd no
   left_neighbour_in f (suc k) b e = ids_shown (read f) b (neighbour_in (visible f) k b e)
 
   pub follower_in : (left : Parent) (f : Forest E) (a : Id) → follower left f ≡ Some a → a ∈ ids f

@@ -1,6 +1,6 @@
 -- One replica, given any edits: its document is the tree of exactly the applied edits.
-use Rattle.std.proofs.Common.{◌≡◌, ℕ, zero, suc, ◌+◌, ◌<◌, ◌≤◌, Bool, true, false, eqb, ltb, leb, ◌⊎◌, List, [], ◌∷◌, ◌++◌, length, Some, None, Option, sym, refl, ap, ◌∙◌, subst, inl, inr, arith, length-append, ltb-false, eq-eqb, eqb-true, leb-false}
-use Rattle.std.proofs.lemmas.Bool.{both_ways, cases_Bool}
+use Rattle.std.proofs.Common.{◌≡◌, ℕ, zero, suc, ◌+◌, ◌<◌, ◌≤◌, Bool, true, false, eqb, ltb, leb, ◌⊎◌, List, [], ◌∷◌, ◌++◌, length, Some, None, Option, sym, refl, ap, ◌∙◌, subst, inl, inr, arith, length-append, ltb-false, eqb-true, leb-false}
+use Rattle.std.proofs.lemmas.Bool.{both_ways, cases_Bool, eqb-false}
 use mathlib.Core.Path.{fun_ext}
 use Rattle.edits.specs.declared.id.Id.{Id}
 use Rattle.edits.specs.declared.fault.Fault.{Fault}
@@ -13,7 +13,7 @@ use Rattle.order.specs.Theorems.{PutAt, HiddenAt}
 use Rattle.order.proofs.Lists.{in_left, in_last, in_snoc, in_nil}
 use Rattle.order.proofs.Histories.{tree_snoc, in_ids, of_ids, count_own, count_other}
 use Rattle.order.proofs.Making.{inserts_at, deletes_at}
-use Rattle.runs.specs.Replicas.{Editor, Replica, new, own_roster, own, own_waits, used_up, next_id, full, no_insert, no_delete, own_insertion, own_deletion, Reply, declined, edited, commit, insert, delete}
+use Rattle.runs.specs.Replicas.{Editor, Replica, new, own_roster, own, own_waits, used_up, next_id, full, no_insert, no_delete, own_insertion, own_deletion, edited, commit, insert, delete}
 use Rattle.runs.specs.Promises.{total, Applied, applies, Rostered, Document, Fed, unused, takes_in, makes_insertion, makes_deletion, KeptAlone}
 use Rattle.runs.proofs.Tests.{Allowed, allowed_by}
 use Rattle.runs.proofs.Sound.{Sound, Settled, covered_ready}
@@ -41,7 +41,7 @@ total_more (suc n) h e l u = go (cases_Bool (eqb e.id.editor (suc n))) (total_mo
         let o : count (h ++ (e ∷ [])) (suc n) ≡ suc (count h (suc n)) = subst (λ (j : ℕ). count (h ++ (e ∷ [])) j ≡ suc (count h j)) p (count_own h e) in
         let s = total_same n h e (omega (arith, p)) in
         omega (arith, o, s)
-    go (inr t) ih = let ne : (e.id.editor ≡ suc n → ⊥) = λ p. both_ways _ t (subst (λ (j : ℕ). eqb e.id.editor j ≡ true) p (eq-eqb e.id.editor e.id.editor refl)) in
+    go (inr t) ih = let ne = eqb-false e.id.editor (suc n) t in
         let o = count_other h e (suc n) ne in
         let i = ih (omega (arith, ne, u)) in
         omega (arith, o, i)
@@ -97,19 +97,11 @@ module _ {E : Type 0} where
         left e out (inl k) = absurd (out (log_applied e k))
         left e out (inr k) = k
 
-  abbrev making_of : Making E → Reply E → Making E
-  making_of d (declined f) = d
-  making_of d (edited m n) = m
-
-  abbrev pub IsEdited : Reply E → Type 0
-  IsEdited (declined f) = ⊥
-  IsEdited (edited m n) = Unit {0}
-
   -- a reply that is no refusal: the tests let the edit pass, and it is the own edit
   passed : (before : Id → Id → Bool) (r : Replica E) (own m : Making E) (n : ℕ) (used no_index slotless : Bool) (o : Option Fault) → Allowed (own_waits r) used no_index slotless o
       → (commit before o own r).1 ≡ edited m n → (own ≡ m) × (no_index ≡ false)
-  passed before r own m n used no_index slotless (Some f) a q = absurd (subst IsEdited (sym q) tt)
-  passed before r own m n used no_index slotless None a q = (ap (making_of own) q, a.2)
+  passed before r own m n used no_index slotless (Some f) a q = let no : ⊥ = cc in absurd no
+  passed before r own m n used no_index slotless None a q = (cc, a.2)
 
   module _ {before : Id → Id → Bool} {r : Replica E} {acc log : List (Edit E)} (S : Sound before r acc log) (i : ℕ) (ed : Editor i) (owner : r.editor ≡ Some i) where
     pub puts_at : (k n : ℕ) (x : E) (m : Making E) → (insert before k x r).1 ≡ edited m n → (own_insertion k x r ≡ m) × (k ≤ length (visible r.forest)) × PutAt k m.edit.id x r.forest (apply before m.edit r.forest)

@@ -14,7 +14,7 @@ use Rattle.order.specs.Systems.{Making, edits_of, new_edit, insertion_made, dele
 use Rattle.order.proofs.Lists.{any_false, in_left, in_last, in_snoc, Distinct, distinct_append, in_nil, keep_append}
 use Rattle.order.proofs.Histories.{of_ids, counted}
 use Rattle.order.proofs.Making.{insertion_lawful, deletion_lawful, new_next}
-use Rattle.runs.specs.Replicas.{Editor, most_editors, Replica, new, placed, with_shelf, inserts, is_known, ready, listed, full, enrolled, Verdict, knows, refuses, applies, shelves, Answer, known, refused, taken, Reply, declined, edited, verdict, own, own_waits, used_up, next_id, no_insert, no_delete, own_insertion, own_deletion, applied, settled, applied_with, judge, take_in, commit, insert, delete}
+use Rattle.runs.specs.Replicas.{Editor, most_editors, Replica, new, placed, with_shelf, inserts, is_known, ready, listed, full, enrolled, Verdict, knows, refuses, applies, shelves, Answer, known, refused, taken, Reply, edited, verdict, own, own_waits, used_up, next_id, no_insert, no_delete, own_insertion, own_deletion, applied, settled, applied_with, judge, take_in, commit, insert, delete}
 use Rattle.runs.specs.Promises.{SoundEdit, accepted_by}
 use Rattle.runs.specs.Worlds.{made_by}
 use Rattle.runs.proofs.Tests.{placed_length, one_if, keep_length, Judged, judged_by, Allowed, allowed_by}
@@ -50,20 +50,6 @@ module _ {E : Type 0} (before : Id → Id → Bool) where
     pub after : After before log p.0 (acc ++ accepted_by p.1 e)
     pub settled : Settled p.0
     pub grows : (n : ℕ) → p.1 ≡ taken n → length after.now ≡ length log + n
-
-abbrev IsTaken : Answer → Type 0
-IsTaken known = ⊥
-IsTaken (refused f) = ⊥
-IsTaken (taken n) = Unit {0}
-
-abbrev number_of : Answer → ℕ
-number_of known = 0
-number_of (refused f) = 0
-number_of (taken n) = n
-
-abbrev pub number_with : {E : Type 0} → Reply E → ℕ
-number_with (declined f) = 0
-number_with (edited m n) = n
 
 module _ {E : Type 0} {before : Id → Id → Bool} where
   -- the roster takes the editor in
@@ -154,12 +140,12 @@ module _ {E : Type 0} {before : Id → Id → Bool} where
 
     by_verdict : (v : Verdict) → Judged (is_known r e.id) (not (listed r e.id.editor) && leb most_editors (length r.roster)) (inserts e && full r) (ready r e) (leb r.room (length r.shelf)) v
         → Takes before r acc log e (judge before v e r)
-    by_verdict knows j = not_taken known (λ n q. subst IsTaken (sym q) tt) refl
-    by_verdict (refuses f) j = not_taken (refused f) (λ n q. subst IsTaken (sym q) tt) refl
+    by_verdict knows j = not_taken known (λ n q. cc) refl
+    by_verdict (refuses f) j = not_taken (refused f) (λ n q. cc) refl
     by_verdict applies j = record {
       after = record { now = A.now; onward = first_on e (in_last acc e) n A.onward; sound = A.sound };
       settled = settles before e (enrolled e r);
-      grows = λ n q. growth before e (enrol S e j.1) A ∙ ap (λ (m : ℕ). length log + m) (ap number_of q);
+      grows = λ n q. growth before e (enrol S e j.1) A ∙ ap (λ (m : ℕ). length log + m) (cc);
     }
       where
         N : (e.id ∉ edit_ids log) × (e.id ∉ edit_ids r.shelf)
@@ -173,7 +159,7 @@ module _ {E : Type 0} {before : Id → Id → Bool} where
     by_verdict shelves j = record {
       after = record { now = log; onward = stays; sound = shelve (enrol S e j.1) e s N.0 N.1 (slot_left r e j.2 S.slots) j.4 };
       settled = λ d m. still d (in_snoc r.shelf e m);
-      grows = λ n q. let z : 0 ≡ n = ap number_of q in omega (arith, z);
+      grows = λ n q. let z : 0 ≡ n = cc in omega (arith, z);
     }
       where
         N : (e.id ∉ edit_ids log) × (e.id ∉ edit_ids r.shelf)
@@ -233,7 +219,7 @@ module _ {E : Type 0} {before : Id → Id → Bool} where
     commits rest m c p used no_index slotless lawful free None a = record {
       after = A;
       settled = settles before m.edit r;
-      grows = λ d n q. growth before m.edit S A ∙ ap (λ (k : ℕ). length log + k) (ap number_with q);
+      grows = λ d n q. growth before m.edit S A ∙ ap (λ (k : ℕ). length log + k) (cc);
     }
       where
         A : After before (log ++ (m.edit ∷ [])) (settled before m.edit r) (acc ++ (m.edit ∷ []))

@@ -5,7 +5,7 @@ use Rattle.std.proofs.lemmas.List.{map-append}
 use Rattle.edits.specs.declared.id.Id.{Id}
 use Rattle.edits.specs.declared.fault.Fault.{Fault}
 use Rattle.edits.specs.Ids.{same}
-use Rattle.runs.proofs.Calls.{own_is, number_with}
+use Rattle.runs.proofs.Calls.{own_is}
 use Rattle.order.specs.Lists.{◌∈◌, here, ◌⊆◌}
 use Rattle.order.specs.Edits.{Clock, Edit, Covers, Order, is_insertion}
 use Rattle.order.specs.Forests.{Entry, read, visible, apply, tree}
@@ -18,13 +18,13 @@ use Rattle.order.proofs.Systems.{Facts, facts, becomes_entry}
 use Rattle.order.proofs.Entries.{part_in_order}
 use Rattle.order.proofs.Systems as systems
 use Rattle.order.proofs.Interleaving.{no_interleaving}
-use Rattle.runs.specs.Replicas.{Editor, Replica, ready, own, own_waits, Pick, nothing, picked, pick, own_insertion, own_deletion, edited, applied, go_on, release, settled, commit, insert, delete, no_insert, no_delete}
+use Rattle.runs.specs.Replicas.{Editor, Replica, ready, own, own_waits, Pick, nothing, picked, pick, own_insertion, own_deletion, edited, applied, go_on, release, settled, applied_with, commit, insert, delete, no_insert, no_delete}
 use Rattle.runs.specs.Worlds.{World, Step, sends, fetches, misreads, finds_none, Leads, no_call, then, Run}
 use Rattle.runs.specs.Worlds as worlds
 use Rattle.runs.specs.Promises.{Applied, Exactly, SameClocks, SameApplied, tree_of_all, Kept}
 use Rattle.runs.proofs.Tests.{Picks, picks, each_within, within_each}
 use Rattle.runs.proofs.Sound.{Settled}
-use Rattle.runs.proofs.Alone.{in_log, log_applied, document, puts_at, hides_at, history_applied, IsEdited}
+use Rattle.runs.proofs.Alone.{in_log, log_applied, document, puts_at, hides_at, history_applied}
 use Rattle.runs.proofs.Simulation.{Sim, run_sim, leads_sim}
 
 -- where none is ready nothing is released
@@ -127,12 +127,12 @@ module _ {E X : Type 0} {before : Id → Id → Bool} (O : Order before) (meanin
   -- a reply that is no refusal: the edit was applied, and nothing else
   applied_only : (i n : ℕ) (o : Option Fault) (own m : Making E) → own.edit.id.editor ≡ i → own ≡ m → (commit before o own (w.replicas i)).1 ≡ edited m n
       → (commit before o own (w.replicas i)).0.forest ≡ apply before m.edit (w.replicas i).forest
-  applied_only i n (Some f) own m ed p q = absurd (subst IsEdited (sym q) tt)
+  applied_only i n (Some f) own m ed p q = cc
   applied_only i n None own m ed p q = ap (λ (r : Replica E). r.forest) (none_released i own.edit ed) ∙ ap (λ (u : Making E). apply before u.edit (w.replicas i).forest) p
 
   applied_one : (i n : ℕ) (o : Option Fault) (own m : Making E) → own.edit.id.editor ≡ i → (commit before o own (w.replicas i)).1 ≡ edited m n → n ≡ 1
-  applied_one i n (Some f) own m ed q = absurd (subst IsEdited (sym q) tt)
-  applied_one i n None own m ed q = sym (ap number_with q) ∙ ap (λ (r : Replica E). suc (length (w.replicas i).shelf - length r.shelf)) (none_released i own.edit ed) ∙ omega arith
+  applied_one i n (Some f) own m ed q = cc
+  applied_one i n None own m ed q = let z : n ≡ applied_with before own.edit (w.replicas i) = cc in z ∙ ap (λ (r : Replica E). suc (length (w.replicas i).shelf - length r.shelf)) (none_released i own.edit ed) ∙ omega arith
 
   own_number : (i : ℕ) → own (w.replicas i) ≡ i
   own_number i = own_is (w.replicas i) i (S.owner i)

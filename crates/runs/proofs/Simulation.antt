@@ -1,8 +1,8 @@
 -- Every run of the calls is one of replicas that make edits and take them in: each replica has a log of what it applied.
-use Rattle.std.proofs.Common.{◌≡◌, ℕ, zero, suc, ◌<◌, ◌≤◌, Bool, true, false, cond, eqb, ltb, leb, ◌⊎◌, List, [], ◌∷◌, ◌++◌, map, length, get_or, take, drop, Some, None, Option, sym, refl, ap, ◌∙◌, subst, inl, inr, append_assoc, append-nil, ltb-false, eq-eqb, eqb-true, leb-false}
-use Rattle.std.proofs.lemmas.Bool.{both_ways, cases_Bool}
+use Rattle.std.proofs.Common.{◌≡◌, ℕ, zero, suc, ◌<◌, ◌≤◌, Bool, false, ltb, leb, ◌⊎◌, List, [], ◌∷◌, ◌++◌, map, length, get_or, take, drop, Some, None, Option, sym, refl, ap, ◌∙◌, subst, inl, inr, append_assoc, append-nil, ltb-false, leb-false}
 use mathlib.Core.Path.{fun_ext}
 use Rattle.std.proofs.lemmas.List.{map-append}
+use Rattle.std.proofs.lemmas.Option.{none-some, same_Some}
 use Rattle.edits.specs.declared.id.Id.{Id}
 use Rattle.edits.specs.declared.fault.Fault.{Fault}
 use Rattle.order.specs.Lists.{◌∈◌, here, there, ◌⊆◌, with_at}
@@ -27,22 +27,15 @@ use Rattle.runs.proofs.Keeping.{commit_editor, take_all_editor, take_all_sub, Fe
 
 -- functions replaced at a place
 pub at_same : {X : Type 0} (f : ℕ → X) (i : ℕ) → with_at f i (f i) ≡ f
-at_same f i = fun_ext (λ j. go j (cases_Bool (eqb j i)))
-  where
-    go : (j : ℕ) → (eqb j i ≡ true) ⊎ (eqb j i ≡ false) → with_at f i (f i) j ≡ f j
-    go j (inl t) = ap (λ (b : Bool). cond b (f i) (f j)) t ∙ ap f (sym (eqb-true j i t))
-    go j (inr t) = ap (λ (b : Bool). cond b (f i) (f j)) t
+at_same f i = fun_ext (at_each (λ j x. x ≡ f j) f i (f i) refl (λ j ne. refl))
 
 at_all : {X : Type 0} (P : X → Type 0) (f : ℕ → X) (i : ℕ) (x : X) → P x → ((j : ℕ) → P (f j)) → (j : ℕ) → P (with_at f i x j)
-at_all P f i x it others j = elim (eqb j i) as (λ b. P (cond b x (f j))) [ true ↦ it | false ↦ others j ]
+at_all P f i x it others = at_each (λ j. P) f i x it (λ j ne. others j)
 
 at_two : {X Y : Type 0} (P : ℕ → X → Y → Type 0) (f : ℕ → X) (g : ℕ → Y) (i : ℕ) (x : X) (y : Y)
     → P i x y → ((j : ℕ) → (j ≡ i → ⊥) → P j (f j) (g j)) → (j : ℕ) → P j (with_at f i x j) (with_at g i y j)
-at_two P f g i x y it others j = go (cases_Bool (eqb j i))
-  where
-    go : (eqb j i ≡ true) ⊎ (eqb j i ≡ false) → P j (with_at f i x j) (with_at g i y j)
-    go (inl t) = subst (λ (b : Bool). P j (cond b x (f j)) (cond b y (g j))) (sym t) (subst (λ (n : ℕ). P n x y) (sym (eqb-true j i t)) it)
-    go (inr t) = subst (λ (b : Bool). P j (cond b x (f j)) (cond b y (g j))) (sym t) (others j (λ p. both_ways _ t (subst (λ (n : ℕ). eqb n i ≡ true) (sym p) (eq-eqb i i refl))))
+at_two P f g i x y it others = at_each (λ j z. P j z (with_at g i y j)) f i x (subst (P i x) (sym (at_it g i y)) it)
+    (λ j ne. subst (P j (f j)) (sym (at_other g i y j ne)) (others j ne))
 
 in_take : {X : Type 0} (n : ℕ) (xs : List X) → take n xs ⊆ xs
 in_take zero xs x m = elim m [ ]
@@ -60,9 +53,6 @@ abbrev Known : {X Y : Type 0} → (X → Y) → List Y → Line X → Type 0
 Known {X} meaning all l = (r : Bytes) → r ∈ l.holds.put → (xs : List X) → l.format.reads r ≡ Some xs → (x : X) → x ∈ xs → meaning x ∈ all
 
 module _ {X : Type 0} (format : Format X) (law : KeepsLaw format) (xs : List X) (fit : AllFit format xs) where
-  some_same : (ys zs : List X) → Some ys ≡ Some zs → ys ≡ zs
-  some_same ys zs p = cc
-
   record Pieces (rs : List Bytes) (rest : List X) : Type 0 where
     left : rest ⊆ xs
     read : (r : Bytes) → r ∈ rs → (ys : List X) → format.reads r ≡ Some ys → ys ⊆ xs
@@ -73,7 +63,7 @@ module _ {X : Type 0} (format : Format X) (law : KeepsLaw format) (xs : List X) 
     where
       last : (r : Bytes) → r ≡ (format.packs rest).0 → (ys : List X) → rest ⊆ xs → format.reads r ≡ Some ys → ys ⊆ xs
       last r p ys sub q e i =
-          let same : take (format.packs rest).1 rest ≡ ys = some_same _ ys (sym (law.packing rest pos (λ x m. fit x (sub x m))).read_back ∙ ap format.reads (sym p) ∙ q) in
+          let same : take (format.packs rest).1 rest ≡ ys = same_Some _ ys (sym (law.packing rest pos (λ x m. fit x (sub x m))).read_back ∙ ap format.reads (sym p) ∙ q) in
           sub e (in_take (format.packs rest).1 rest e (subst (λ (l : List X). e ∈ l) (sym same) i))
 
       more : Pieces rs rest → Pieces (rs ++ ((format.packs rest).0 ∷ [])) (drop (format.packs rest).1 rest)
@@ -81,14 +71,6 @@ module _ {X : Type 0} (format : Format X) (law : KeepsLaw format) (xs : List X) 
         left = λ e i. p.left e (in_drop (format.packs rest).1 rest e i);
         read = λ r i ys q. elim (in_snoc rs (format.packs rest).0 i) [ inl a ↦ p.read r a ys q | inr b ↦ last r b ys p.left q ];
       }
-
-IsNoFault : Option Fault → Type 0
-IsNoFault None = Unit {0}
-IsNoFault (Some f) = ⊥
-
-none_some : {f : Fault} → Some f ≡ None → ⊥
-unfolding IsNoFault
-none_some q = subst IsNoFault (sym q) tt
 
 all_put : (h : Channel) {rs : List Bytes} {k : Channel} → Puts h rs k → k.put ≡ h.put ++ rs
 all_put h none_put = sym (append-nil h.put)
@@ -209,7 +191,7 @@ module _ {E X : Type 0} (before : Id → Id → Bool) (meaning : X → Edit E) w
         is = insertion_is (S.sound i) i ed (S.owner i) k x
 
         short : (o : Option Fault) → Allowed (own_waits r) (used_up r) (ltb (length (visible r.forest)) k) (full r) o → o ≡ None → k ≤ length (visible r.forest)
-        short (Some f) a q = absurd (none_some q)
+        short (Some f) a q = absurd (none-some f (sym q))
         short None a q = ltb-false (length (visible r.forest)) k a.2
 
         reach : no_insert k r ≡ None → Reached before (w.makings ++ (own_insertion k x r ∷ [])) (extended S.logs i (own_insertion k x r).edit) × Lawful (new_edit i (S.logs i) (insertion_at k x (tree before (S.logs i))))
@@ -230,7 +212,7 @@ module _ {E X : Type 0} (before : Id → Id → Bool) (meaning : X → Edit E) w
         is = deletion_is (S.sound i) i ed (S.owner i) k
 
         short : (o : Option Fault) → Allowed (own_waits r) (used_up r) (leb (length (visible r.forest)) k) false o → o ≡ None → k < length (visible r.forest)
-        short (Some f) a q = absurd (none_some q)
+        short (Some f) a q = absurd (none-some f (sym q))
         short None a q = leb-false (length (visible r.forest)) k a.2
 
         within : no_delete k r ≡ None → k < length (visible (tree before (S.logs i)))

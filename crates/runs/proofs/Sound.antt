@@ -1,6 +1,6 @@
 -- What every call at one replica keeps, whatever edits come in.
-use Rattle.std.proofs.Common.{◌≡◌, ℕ, zero, suc, ◌+◌, ◌≤◌, Bool, true, false, eqb, leb, ◌⊎◌, ◌↔◌, List, [], ◌∷◌, ◌++◌, length, sym, refl, ap, ◌∙◌, subst, inl, inr, arith, length-append, eq-eqb, eqb-true, leb-false}
-use Rattle.std.proofs.lemmas.Bool.{both_ways, cases_Bool, or_parts}
+use Rattle.std.proofs.Common.{◌≡◌, ℕ, zero, suc, ◌+◌, ◌≤◌, Bool, true, false, eqb, leb, ◌⊎◌, ◌↔◌, List, [], ◌∷◌, ◌++◌, length, sym, refl, ap, ◌∙◌, subst, inl, inr, arith, length-append, eqb-true, leb-false}
+use Rattle.std.proofs.lemmas.Bool.{both_ways, cases_Bool, eqb-false, or_parts}
 use mathlib.Core.Path.{fun_ext}
 use lib.ListN.{length-map}
 use Rattle.edits.specs.declared.id.Id.{Id}
@@ -123,7 +123,7 @@ module _ {E : Type 0} where
 
         at : (i : ℕ) → (eqb i e.id.editor ≡ true) ⊎ (eqb i e.id.editor ≡ false) → with_at r.clock e.id.editor e.id.number i ≡ count (log ++ (e ∷ [])) i
         at i (inl t) = rw t (next_number (counted S.history) e s.lawful n ∙ sym (count_own log e) ∙ ap (count (log ++ (e ∷ []))) (sym (eqb-true i e.id.editor t)))
-        at i (inr t) = rw t (count_clock i ∙ sym (count_other log e i (λ p. both_ways _ (subst (λ (j : ℕ). eqb i j ≡ false) p t) (eq-eqb i i refl))))
+        at i (inr t) = rw t (count_clock i ∙ sym (count_other log e i (λ p. eqb-false i e.id.editor t (sym p))))
 
         maker : (d : Edit E) → (d ∈ log) ⊎ (d ≡ e) → Editor d.id.editor
         maker d (inl m) = S.makers d m

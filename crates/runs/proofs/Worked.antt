@@ -1,6 +1,6 @@
 -- The worked run, by computing.
-use Rattle.std.proofs.Common.{◌≡◌, ℕ, suc, ◌-◌, ◌<◌, ◌≤◌, Bool, true, false, cond, eqb, leb, ◌⊎◌, List, [], ◌∷◌, ◌++◌, map, length, get_or, set, Some, sym, refl, ap, ◌∙◌, subst, inl, inr, arith, eq-eqb, ne_eqb, eqb-true}
-use Rattle.std.proofs.lemmas.Bool.{both_ways, cases_Bool}
+use Rattle.std.proofs.Common.{◌≡◌, ℕ, suc, ◌-◌, ◌<◌, ◌≤◌, Bool, true, false, cond, eqb, leb, List, [], ◌∷◌, ◌++◌, map, length, get_or, set, Some, sym, refl, ap, ◌∙◌, inl, arith, eq-eqb, eqb-true}
+use Rattle.std.specs.Cmp.{both_ways}
 use mathlib.Core.Path.{fun_ext}
 use Rattle.edits.specs.declared.edit.Edit.{Edit as Carried}
 use Rattle.edits.specs.Ids.{precedes}
@@ -67,11 +67,7 @@ last = fetched again 3 third
 
 -- The clock of a made edit tests whether the editor asked for is 1, that of a carried edit whether 1 is the editor asked for.
 turned : (i j : ℕ) → eqb i j ≡ eqb j i
-turned i j = go (cases_Bool (eqb j i))
-  where
-    go : (eqb j i ≡ true) ⊎ (eqb j i ≡ false) → eqb i j ≡ eqb j i
-    go (inl e) = rw (eqb-true j i e) refl
-    go (inr e) = rw (e, ne_eqb i j (λ p. both_ways _ e (subst (λ (k : ℕ). eqb j k ≡ true) (sym p) (eq-eqb j j refl))))
+turned i j = both_ways (eqb i j) (eqb j i) (λ t. eq-eqb j i (sym (eqb-true i j t))) (λ t. eq-eqb i j (sym (eqb-true j i t)))
 
 -- a later count of the same editor replaces an earlier one
 replaced : (b : Bool) (m n : ℕ) → cond b n (cond b m 0) ≡ cond b n 0
