@@ -3,7 +3,6 @@ use Rattle.std.proofs.Common.{◌≡◌, Bool, true, false, cond, not, ◌&&◌,
 use Rattle.std.proofs.lemmas.Bool.{false_from_ne_true, and_parts, or_cases}
 use Rattle.std.proofs.Math.Bool.{or-false}
 use mathlib.Core.Bool.{false≢true}
-use Rattle.std.proofs.lemmas.List.{map-append}
 use Rattle.edits.specs.declared.id.Id.{Id}
 use Rattle.edits.specs.declared.edit.Side.{Side}
 use Rattle.edits.specs.declared.edit.Parent.{Parent}
@@ -12,11 +11,11 @@ use Rattle.edits.specs.Ids.{same}
 use Rattle.order.specs.Lists.{◌∈◌, here, there, ◌∉◌, ◌⊆◌, keep}
 use Rattle.order.specs.Edits.{Change, insertion, deletion, Edit, Refers, Lawful, is_insertion, Order}
 use Rattle.order.specs.Forests.{Entry, Forest, read, is_shown, entry_id, ids, fresh, hide, apply, grown, tree, visible}
-use Rattle.order.specs.Histories.{edit_id, edit_ids, Next, History, empty, more, inserted, deletes, deleted, stands, as_shown, standing}
+use Rattle.order.specs.Histories.{edit_ids, Next, History, empty, more, inserted, deletes, deleted, stands, as_shown, standing}
 use Rattle.order.proofs.Ids.{same_eq, same_refl}
-use Rattle.order.proofs.Lists.{any_true, true_any, any_append, in_left, in_last, of_map, in_nil, keep_alike, keep_map, Distinct, distinct_append}
+use Rattle.order.proofs.Lists.{any_true, true_any, any_append, in_left, in_last, of_map, keep_alike, keep_map, Distinct}
 use Rattle.order.proofs.Growing.{Grew, Effect, of_grew, grew_keep, effect, effect_distinct, effect_ids, map_hide}
-use Rattle.order.proofs.Histories.{tree_snoc, in_ids, ids_old}
+use Rattle.order.proofs.Histories.{tree_snoc, in_ids, ids_old, distinct_ids_snoc}
 use Rattle.order.proofs.Reordering.{rest_of, rest_new, rest_distinct, tree_from_part}
 
 not_or : (a b : Bool) → not (a || b) ≡ (not a && not b)
@@ -134,12 +133,7 @@ module _ {E : Type 0} where
 
   pub distinct_ids : {h : List (Edit E)} → History h → Distinct (edit_ids h)
   distinct_ids empty = tt
-  distinct_ids (more {h} e H l n) = subst Distinct (sym (map-append edit_id h (e ∷ [])))
-      (distinct_append (edit_ids h) (e.id ∷ []) (distinct_ids H) ((λ m. elim m [ ]), tt) apart)
-    where
-      apart : (a : Id) → a ∈ edit_ids h → a ∉ (e.id ∷ [])
-      apart a m (here p) = n.new (subst (λ (b : Id). b ∈ edit_ids h) p m)
-      apart a m (there k) = in_nil k
+  distinct_ids (more {h} e H l n) = distinct_ids_snoc h e (distinct_ids H) n.new
 
   -- one order: what later edits bring in, a filter by identifiers can leave out again
   module _ (before : Id → Id → Bool) (test : Id → Bool) where

@@ -1,21 +1,16 @@
 -- What holds of every history: lawful edits, each after all that its clock covers.
 use Rattle.std.proofs.Common.{◌≡◌, ℕ, zero, suc, ◌+◌, ◌≤◌, Bool, true, false, eqb, leb, ◌⊎◌, List, [], ◌∷◌, ◌++◌, sym, refl, ap, ◌∙◌, subst, inl, inr, arith, eq-eqb, ne_eqb, eqb-true, leb-false, leb-true}
 use Rattle.std.proofs.lemmas.Bool.{cases_Bool, eqb-false}
-use mathlib.Core.Bool.{false≢true}
-use Rattle.std.proofs.lemmas.List.{map-append}
+use Rattle.std.proofs.lemmas.List.{map_push}
 use Rattle.edits.specs.declared.id.Id.{Id}
-use Rattle.order.specs.Lists.{◌∈◌, ◌⊆◌}
+use Rattle.order.specs.Lists.{◌∈◌, ◌∉◌, ◌⊆◌}
 use Rattle.order.specs.Edits.{Edit, Covers, Lawful}
 use Rattle.order.specs.Forests.{Forest, nil, apply, grown, tree}
 use Rattle.order.specs.Histories.{edit_id, edit_ids, count, Next, History, empty, more}
 use Rattle.order.proofs.Ids.{id_eq}
-use Rattle.order.proofs.Lists.{in_left, in_last, in_snoc, in_map, of_map}
+use Rattle.order.proofs.Lists.{in_left, in_last, in_snoc, each_snoc, in_map, of_map, Distinct, distinct_snoc}
 
 module _ {E : Type 0} where
-  -- one more edit at the end
-  pub snoc : List (Edit E) → Edit E → List (Edit E)
-  snoc h e = h ++ (e ∷ [])
-
   pub grown_append : (before : Id → Id → Bool) (f : Forest E) (h k : List (Edit E)) → grown before f (h ++ k) ≡ grown before (grown before f h) k
   grown_append before f [] k = refl
   grown_append before f (e ∷ h) k = grown_append before (apply before e f) h k
@@ -36,28 +31,21 @@ module _ {E : Type 0} where
   ids_old h e {a} m = ids_sub h (h ++ (e ∷ [])) (λ d k. in_left h (e ∷ []) k) a m
 
   pub ids_snoc : (h : List (Edit E)) (e : Edit E) {a : Id} → a ∈ edit_ids (h ++ (e ∷ [])) → (a ∈ edit_ids h) ⊎ (a ≡ e.id)
-  ids_snoc h e {a} m = in_snoc (edit_ids h) e.id (subst (λ (l : List Id). a ∈ l) (map-append edit_id h (e ∷ [])) m)
+  ids_snoc h e {a} m = in_snoc (edit_ids h) e.id (subst (λ (l : List Id). a ∈ l) (map_push edit_id h e) m)
 
   -- an edit does not cover itself
   pub not_own : (e : Edit E) → Lawful e → Covers e.clock e.id → ⊥
   not_own e l c = let own = l.own in let le = c.1 in omega (arith, own, le)
 
   pub lawful_in : {h : List (Edit E)} → History h → (d : Edit E) → d ∈ h → Lawful d
-  lawful_in empty d m = elim m [ ]
-  lawful_in (more {h} e H l n) d m = go (in_snoc h e m) (lawful_in H d)
-    where
-      go : (d ∈ h) ⊎ (d ≡ e) → (d ∈ h → Lawful d) → Lawful d
-      go (inl k) ih = ih k
-      go (inr p) ih = subst Lawful (sym p) l
+  lawful_in empty = λ d m. elim m [ ]
+  lawful_in (more {h} e H l n) = each_snoc Lawful h e (lawful_in H) l
 
   -- what an edit of the history covers is in the history
   pub covered_in : {h : List (Edit E)} → History h → (d : Edit E) → d ∈ h → (a : Id) → Covers d.clock a → a ∈ edit_ids h
-  covered_in empty d m a c = elim m [ ]
-  covered_in (more {h} e H l n) d m a c = go (in_snoc h e m) (covered_in H d)
-    where
-      go : (d ∈ h) ⊎ (d ≡ e) → (d ∈ h → (b : Id) → Covers d.clock b → b ∈ edit_ids h) → a ∈ edit_ids (h ++ (e ∷ []))
-      go (inl k) ih = ids_old h e (ih k a c)
-      go (inr p) ih = ids_old h e (n.covered a (subst (λ (b : Edit E). Covers b.clock a) p c))
+  covered_in empty = λ d m. elim m [ ]
+  covered_in (more {h} e H l n) = each_snoc (λ (d : Edit E). (a : Id) → Covers d.clock a → a ∈ edit_ids (h ++ (e ∷ []))) h e
+      (λ d m a c. ids_old h e (covered_in H d m a c)) (λ a c. ids_old h e (n.covered a c))
 
   -- no identifier stands for two
   pub one_each : {h : List (Edit E)} → History h → (c d : Edit E) → c ∈ h → d ∈ h → c.id ≡ d.id → c ≡ d
@@ -69,6 +57,13 @@ module _ {E : Type 0} where
       go (inl i) (inr j) ih = absurd (n.new (subst (λ (a : Id). a ∈ edit_ids h) (p ∙ ap edit_id j) (in_ids h i)))
       go (inr i) (inl j) ih = absurd (n.new (subst (λ (a : Id). a ∈ edit_ids h) (sym p ∙ ap edit_id i) (in_ids h j)))
       go (inr i) (inr j) ih = i ∙ sym j
+
+  -- an edit of a history is in a part of it if its identifier is
+  pub in_part : {h k : List (Edit E)} → History h → k ⊆ h → (d : Edit E) → d ∈ h → d.id ∈ edit_ids k → d ∈ k
+  in_part {h} {k} H sub d m i = let u = of_ids k i in subst (λ (c : Edit E). c ∈ k) (one_each H u.0 d (sub u.0 u.1) m u.2) u.1
+
+  pub distinct_ids_snoc : (h : List (Edit E)) (e : Edit E) → Distinct (edit_ids h) → e.id ∉ edit_ids h → Distinct (edit_ids (h ++ (e ∷ [])))
+  distinct_ids_snoc h e d new = subst Distinct (sym (map_push edit_id h e)) (distinct_snoc (edit_ids h) e.id d new)
 
   -- counting
   count_append : (h k : List (Edit E)) (editor : ℕ) → count (h ++ k) editor ≡ count h editor + count k editor

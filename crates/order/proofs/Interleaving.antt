@@ -10,11 +10,11 @@ use Rattle.order.specs.Lists.{◌∈◌, here, there, ◌⊆◌, Before}
 use Rattle.order.specs.Edits.{Clock, Order, Change, insertion, Edit, Covers, Refers, is_insertion}
 use Rattle.order.specs.Forests.{Forest, ids, change, apply, grown, tree}
 use Rattle.order.specs.Placing.{after, follower, has_right, has_right_child, hung, insertion_after}
-use Rattle.order.specs.Histories.{edit_id, edit_ids, History, empty, more}
+use Rattle.order.specs.Histories.{edit_id, History, empty, more}
 use Rattle.order.specs.Systems.{Making, making_edit, edits_of, Reached}
 use Rattle.order.specs.Theorems.{Forward, Backward, InsertionsOf, TypedRun, Knew, Unbroken}
-use Rattle.order.proofs.Lists.{in_left, in_last, in_snoc, in_nil, in_map, of_map}
-use Rattle.order.proofs.Histories.{tree_snoc, in_ids, of_ids, covered_in, one_each, counted}
+use Rattle.order.proofs.Lists.{in_left, in_last, each_cons, sub_snoc, in_nil, in_map, of_map}
+use Rattle.order.proofs.Histories.{tree_snoc, in_ids, covered_in, in_part, counted}
 use Rattle.order.proofs.Reordering.{rest_of, tree_from_part}
 use Rattle.order.proofs.Placing.{follower_in}
 use Rattle.order.proofs.Under.{Under, under_stays, under_new, under_deep, under_was}
@@ -41,11 +41,6 @@ module _ {E : Type 0} {before : Id → Id → Bool} (O : Order before) {ms : Lis
   abbrev whole : Forest E
   whole = tree before (edits_of ms)
 
-  -- an edit is in a part of all if its identifier is
-  in_part : {k : List (Edit E)} → k ⊆ edits_of ms → (d : Edit E) → d ∈ edits_of ms → d.id ∈ edit_ids k → d ∈ k
-  in_part {k} sub d m i = let u = of_ids k i in
-      subst (λ (c : Edit E). c ∈ k) (one_each F.all u.0 d (sub u.0 u.1) m u.2) u.1
-
   module _ (m : Making E) (k : m ∈ ms) where
     -- what the maker of m had applied, and its tree
     abbrev known : List (Edit E)
@@ -58,14 +53,10 @@ module _ {E : Type 0} {before : Id → Id → Bool} (O : Order before) {ms : Lis
     since : (P : Forest E → Type 0) → Stays before P → {j : List (Edit E)} → History j → known ⊆ j → m.edit ∈ j
         → P (apply before m.edit seen) → P (tree before j)
     since P stays {j} J sub i p = part_keeps before O P stays (more m.edit M.history M.lawful M.next) J
-        (λ d w. within d (in_snoc known m.edit w)) (subst P (sym (tree_snoc before known m.edit)) p)
+        (sub_snoc sub i) (subst P (sym (tree_snoc before known m.edit)) p)
       where
         M : Made before (edits_of ms) m
         M = F.made m k
-
-        within : (d : Edit E) → (d ∈ known) ⊎ (d ≡ m.edit) → d ∈ j
-        within d (inl v) = sub d v
-        within d (inr q) = subst (λ (c : Edit E). c ∈ j) (sym q) i
 
     -- m is below b in the tree of all if it is where it was made
     made_under : (s : Side) (b : Id) (c : Change E) → m.edit.change ≡ c → Under s b (change before m.edit.id c seen) m.edit.id
@@ -128,11 +119,11 @@ module _ {E : Type 0} {before : Id → Id → Bool} (O : Order before) {ms : Lis
       m_in = follower_in n.left (seen n j) m.edit.id follows
 
       m_known : m.edit ∈ N.known
-      m_known = in_part N.part m.edit (in_map making_edit ms i) (entry_edit (entries before N.history) m.edit.id m_in)
+      m_known = in_part F.all N.part m.edit (in_map making_edit ms i) (entry_edit (entries before N.history) m.edit.id m_in)
 
       -- the maker of n had applied all that the maker of m had
       all_known : M.known ⊆ N.known
-      all_known d k = in_part N.part d (M.part d k) (covered_in N.history m.edit m_known d.id
+      all_known d k = in_part F.all N.part d (M.part d k) (covered_in N.history m.edit m_known d.id
           (subst (λ (c : Clock). Covers c d.id) (sym M.clock) ((counted M.history).within d.id (in_ids M.known k))))
 
       right_child : has_right_child n.left (seen n j) ≡ true
@@ -147,8 +138,8 @@ module _ {E : Type 0} {before : Id → Id → Bool} (O : Order before) {ms : Lis
   -- the first is below b, and the others are below the first
   one_more : (s : Side) (b : Id) (m : Making E) (run : List (Making E)) → Under s b whole m.edit.id → AllUnder s m.edit.id run
       → AllUnder s b (m ∷ run)
-  one_more s b m run u below a (here p) = subst (λ (n : Making E). Under s b whole n.edit.id) (sym p) u
-  one_more s b m run u below a (there k) = under_trans s s b m.edit.id a.edit.id whole (entries before F.all).distinct u (below a k)
+  one_more s b m run u below = each_cons (λ (n : Making E). Under s b whole n.edit.id) m run u
+      (λ a k. under_trans s s b m.edit.id a.edit.id whole (entries before F.all).distinct u (below a k))
 
   forward_under : (m : Making E) (run : List (Making E)) → InsertionsOf ms (m ∷ run) → Forward m run → AllUnder Right m.edit.id run
   forward_under m [] made steps = λ a k. absurd (in_nil k)
@@ -198,11 +189,10 @@ module _ {E : Type 0} {before : Id → Id → Bool} (O : Order before) {ms : Lis
   unbroken : (s : Side) (m : Making E) (run : List (Making E)) → AllUnder s m.edit.id run → (a c : Making E) → a ∈ (m ∷ run) → c ∈ (m ∷ run)
       → (y : Id) → Before (ids whole) a.edit.id y → Before (ids whole) y c.edit.id → Knew ms y m.edit.id
   unbroken s m run below a c i j y p q = below_knew s m.edit.id F.all (λ d k. k) y
-      (between s m.edit.id whole (entries before F.all).distinct a.edit.id y c.edit.id (first_or i) (first_or j) p q)
+      (between s m.edit.id whole (entries before F.all).distinct a.edit.id y c.edit.id (first_or a i) (first_or c j) p q)
     where
-      first_or : {n : Making E} → n ∈ (m ∷ run) → (n.edit.id ≡ m.edit.id) ⊎ Under s m.edit.id whole n.edit.id
-      first_or (here e) = inl (ap (λ (n : Making E). n.edit.id) e)
-      first_or {n} (there k) = inr (below n k)
+      first_or : (n : Making E) → n ∈ (m ∷ run) → (n.edit.id ≡ m.edit.id) ⊎ Under s m.edit.id whole n.edit.id
+      first_or = each_cons (λ (n : Making E). (n.edit.id ≡ m.edit.id) ⊎ Under s m.edit.id whole n.edit.id) m run (inl refl) (λ n k. inr (below n k))
 
 pub no_interleaving : {E : Type 0} {before : Id → Id → Bool} → Order before → {ms : List (Making E)} {hs : ℕ → List (Edit E)} → Reached before ms hs
     → (m n : Making E) (rest : List (Making E)) → TypedRun ms m n rest → Unbroken ms (ids (tree before (edits_of ms))) (m ∷ n ∷ rest) m.edit.id

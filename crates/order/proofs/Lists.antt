@@ -39,6 +39,17 @@ module _ {A : Type 0} where
   pub in_snoc : {x : A} (xs : List A) (y : A) → x ∈ (xs ++ (y ∷ [])) → (x ∈ xs) ⊎ (x ≡ y)
   in_snoc xs y m = ⊎_map (λ k. k) (λ k. in_one k) (in_split xs (y ∷ []) m)
 
+  -- what holds of the elements and of one more, at the end or in front
+  pub each_snoc : (P : A → Type 0) (xs : List A) (y : A) → ((x : A) → x ∈ xs → P x) → P y → (x : A) → x ∈ (xs ++ (y ∷ [])) → P x
+  each_snoc P xs y all last x m = elim (in_snoc xs y m) [ inl k ↦ all x k | inr e ↦ subst P (sym e) last ]
+
+  pub each_cons : (P : A → Type 0) (y : A) (ys : List A) → P y → ((x : A) → x ∈ ys → P x) → (x : A) → x ∈ (y ∷ ys) → P x
+  each_cons P y ys first all x (here e) = subst P (sym e) first
+  each_cons P y ys first all x (there m) = all x m
+
+  pub sub_snoc : {xs zs : List A} {y : A} → xs ⊆ zs → y ∈ zs → (xs ++ (y ∷ [])) ⊆ zs
+  sub_snoc {xs} {zs} {y} all last = each_snoc (λ (x : A). x ∈ zs) xs y all last
+
   pub in_getD : (xs : List A) (n : ℕ) (d : A) → n < length xs → get_or xs n d ∈ xs
   in_getD [] n d l = let no : ⊥ = omega arith in absurd no
   in_getD (x ∷ xs) zero d l = here refl
@@ -142,13 +153,12 @@ module _ {A : Type 0} where
   distinct_across (z ∷ xs) ys d {x} (here e) k = d.0 (in_right xs ys (subst (λ (w : A). w ∈ ys) e k))
   distinct_across (z ∷ xs) ys d {x} (there m) k = distinct_across xs ys d.1 m k
 
-  pub distinct_append : (xs ys : List A) → Distinct xs → Distinct ys → ((x : A) → x ∈ xs → x ∉ ys) → Distinct (xs ++ ys)
-  distinct_append [] ys d e f = e
-  distinct_append (x ∷ xs) ys d e f = ((λ m. go (in_split xs ys m)), distinct_append xs ys d.1 e (λ y m. f y (there m)))
-    where
-      go : (x ∈ xs) ⊎ (x ∈ ys) → ⊥
-      go (inl m) = d.0 m
-      go (inr m) = f x (here refl) m
+  pub distinct_snoc : (xs : List A) (y : A) → Distinct xs → y ∉ xs → Distinct (xs ++ (y ∷ []))
+  distinct_snoc [] y d new = ((λ m. elim m [ ]), tt)
+  distinct_snoc (x ∷ xs) y d new = (
+    (λ m. elim (in_snoc xs y m) [ inl k ↦ d.0 k | inr e ↦ new (here (sym e)) ]),
+    distinct_snoc xs y d.1 (λ m. new (there m)),
+  )
 
   -- order of places
   pub before_left : (xs : List A) (x y : A) → Before xs x y → x ∈ xs

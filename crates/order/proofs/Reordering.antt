@@ -11,9 +11,9 @@ use Rattle.order.specs.Edits.{Clock, Change, insertion, deletion, Edit, Covers, 
 use Rattle.order.specs.Forests.{nil, apply, grown, tree}
 use Rattle.order.specs.Histories.{edit_id, edit_ids, History, empty, more, SameEdits}
 use Rattle.order.proofs.Ids.{compare, same_apart, same_refl}
-use Rattle.order.proofs.Lists.{in_left, in_right, in_split, in_last, in_snoc, in_keep, of_keep, keep_snoc, keep_all, is_in, is_in_true, of_is_in, Distinct}
+use Rattle.order.proofs.Lists.{in_left, in_right, in_split, in_last, in_snoc, each_snoc, in_keep, of_keep, keep_snoc, keep_all, is_in, is_in_true, of_is_in, Distinct}
 use Rattle.order.proofs.Commuting.{Names, change_change}
-use Rattle.order.proofs.Histories.{tree_snoc, grown_append, in_ids, of_ids, ids_sub, not_own, lawful_in, covered_in, one_each}
+use Rattle.order.proofs.Histories.{tree_snoc, grown_append, in_ids, of_ids, ids_sub, not_own, lawful_in, covered_in, in_part}
 
 module _ {E : Type 0} where
   -- a change names only what its edit's clock covers
@@ -103,11 +103,7 @@ module _ {E : Type 0} where
         tree_snoc before h e ∙ ap (apply before e) (same_tree H (without e.id k) L.history rest) ∙ sym L.same_tree
       where
         free : (d : Edit E) → d ∈ k → Covers d.clock e.id → ⊥
-        free d i c = go (in_snoc h e ((alike d).1 i))
-          where
-            go : (d ∈ h) ⊎ (d ≡ e) → ⊥
-            go (inl j) = n.new (covered_in H d j e.id c)
-            go (inr p) = not_own e l (subst (λ (b : Edit E). Covers b.clock e.id) p c)
+        free d i = each_snoc (λ (b : Edit E). Covers b.clock e.id → ⊥) h e (λ b j c. n.new (covered_in H b j e.id c)) (not_own e l) d ((alike d).1 i)
 
         L : PutLast before e k
         L = put_last e K ((alike e).0 (in_last h e)) free
@@ -115,12 +111,9 @@ module _ {E : Type 0} where
         rest : SameEdits h (without e.id k)
         rest d = (
           (λ i. in_without e.id k ((alike d).0 (in_left h (e ∷ []) i)) (λ p. n.new (subst (λ (a : Id). a ∈ edit_ids h) p (in_ids h i)))),
-          λ i. let u = of_without e.id k i in go u.1 (in_snoc h e ((alike d).1 u.0)),
+          λ i. let u = of_without e.id k i in
+              each_snoc (λ (b : Edit E). (b.id ≡ e.id → ⊥) → b ∈ h) h e (λ b j ne. j) (λ ne. absurd (ne refl)) d ((alike d).1 u.0) u.1,
         )
-          where
-            go : (d.id ≡ e.id → ⊥) → (d ∈ h) ⊎ (d ≡ e) → d ∈ h
-            go ne (inl j) = j
-            go ne (inr p) = absurd (ne (ap edit_id p))
 
   -- a part that is a history itself might as well have come first
   beyond : List (Edit E) → Edit E → Bool
@@ -186,8 +179,7 @@ module _ {E : Type 0} where
         back (inr i) = (of_keep (beyond h) all i).0
 
         there_or : d ∈ all → (is_in (edit_ids h) d.id ≡ true) ⊎ (is_in (edit_ids h) d.id ≡ false) → d ∈ (h ++ rest_of h all)
-        there_or m (inl t) = let u = of_ids h (of_is_in (edit_ids h) d.id t) in
-            in_left h (rest_of h all) (subst (λ (c : Edit E). c ∈ h) (one_each A u.0 d (sub u.0 u.1) m u.2) u.1)
+        there_or m (inl t) = in_left h (rest_of h all) (in_part A sub d m (of_is_in (edit_ids h) d.id t))
         there_or m (inr t) = in_right h (rest_of h all) (in_keep (beyond h) all m (ap not t))
 
     -- the tree of all grows from the tree of the part

@@ -1,18 +1,18 @@
 -- Taking in, inserting and deleting keep a replica sound.
 use Rattle.std.proofs.Common.{◌≡◌, ℕ, suc, ◌+◌, ◌<◌, ◌≤◌, Bool, true, false, cond, not, ◌&&◌, eqb, ltb, leb, ◌⊎◌, List, [], ◌∷◌, ◌++◌, length, Some, None, Option, sym, refl, ap, ◌∙◌, subst, inl, inr, append-nil, arith, length-append, eq-eqb, leb-false}
 use Rattle.std.proofs.lemmas.Bool.{both_ways}
-use Rattle.std.proofs.lemmas.List.{map-append}
+use mathlib.Core.Logic.{⊎_map}
 use Rattle.edits.specs.declared.id.Id.{Id}
 use Rattle.edits.specs.declared.edit.Parent.TheVariants.{Start}
 use Rattle.edits.specs.declared.fault.Fault.{Fault}
-use Rattle.order.specs.Lists.{◌∈◌, here, there, ◌∉◌, keep}
+use Rattle.order.specs.Lists.{◌∈◌, ◌∉◌, keep}
 use Rattle.order.specs.Edits.{Change, Edit, Lawful}
 use Rattle.order.specs.Forests.{Forest, read, visible, tree}
 use Rattle.order.specs.Placing.{left_neighbour, follower, insertion_at, deletion_at}
-use Rattle.order.specs.Histories.{edit_id, edit_ids, Next}
+use Rattle.order.specs.Histories.{edit_ids, Next}
 use Rattle.order.specs.Systems.{Making, edits_of, new_edit, insertion_made, deletion_made}
-use Rattle.order.proofs.Lists.{any_false, in_left, in_last, in_snoc, Distinct, distinct_append, in_nil, keep_append}
-use Rattle.order.proofs.Histories.{of_ids, counted}
+use Rattle.order.proofs.Lists.{any_false, in_left, in_last, each_snoc, sub_snoc, keep_append}
+use Rattle.order.proofs.Histories.{of_ids, counted, distinct_ids_snoc}
 use Rattle.order.proofs.Making.{insertion_lawful, deletion_lawful, new_next}
 use Rattle.runs.specs.Replicas.{Editor, most_editors, Replica, new, placed, with_shelf, inserts, is_known, ready, listed, full, enrolled, Verdict, knows, refuses, applies, shelves, Answer, known, refused, taken, Reply, edited, verdict, own, own_waits, used_up, next_id, no_insert, no_delete, own_insertion, own_deletion, applied, settled, applied_with, judge, take_in, commit, insert, delete}
 use Rattle.runs.specs.Promises.{SoundEdit, accepted_by}
@@ -88,9 +88,9 @@ module _ {E : Type 0} {before : Id → Id → Bool} where
     forest = S.forest;
     clock = S.clock;
     makers = S.makers;
-    waiting = λ d m. wait d (in_snoc r.shelf e m);
-    apart = subst Distinct (sym (map-append edit_id r.shelf (e ∷ []))) (distinct_append (edit_ids r.shelf) (e.id ∷ []) S.apart ((λ m. in_nil m), tt) other);
-    accepted = λ d. ((λ m. there_now d (in_snoc acc e m)), back d);
+    waiting = each_snoc (λ (d : Edit E). SoundEdit d × (d.id ∉ edit_ids log)) r.shelf e S.waiting (s, new);
+    apart = distinct_ids_snoc r.shelf e S.apart out;
+    accepted = λ d. (there_now d, back d);
     sizes = let l = length-append r.shelf (e ∷ []) in let k = length-append acc (e ∷ []) in let z = S.sizes in omega (arith, l, k, z);
     slots = let q : length (keep inserts (r.shelf ++ (e ∷ []))) ≡ length (keep inserts r.shelf) + one_if (inserts e) = kept in omega (arith, q, slot);
     room = let lt = leb-false r.room (length r.shelf) room in let l = length-append r.shelf (e ∷ []) in omega (arith, lt, l);
@@ -103,29 +103,13 @@ module _ {E : Type 0} {before : Id → Id → Bool} where
           let c = keep_length e [] in
           omega (arith, a, b, c)
 
-      wait : (d : Edit E) → (d ∈ r.shelf) ⊎ (d ≡ e) → SoundEdit d × (d.id ∉ edit_ids log)
-      wait d (inl m) = S.waiting d m
-      wait d (inr p) = subst (λ (b : Edit E). SoundEdit b × (b.id ∉ edit_ids log)) (sym p) (s, new)
-
-      other : (a : Id) → a ∈ edit_ids r.shelf → a ∉ (e.id ∷ [])
-      other a m (here p) = out (subst (λ (b : Id). b ∈ edit_ids r.shelf) p m)
-      other a m (there k) = in_nil k
-
-      there_now : (d : Edit E) → (d ∈ acc) ⊎ (d ≡ e) → (d ∈ log) ⊎ (d ∈ (r.shelf ++ (e ∷ [])))
-      there_now d (inl m) = go ((S.accepted d).0 m)
-        where
-          go : (d ∈ log) ⊎ (d ∈ r.shelf) → (d ∈ log) ⊎ (d ∈ (r.shelf ++ (e ∷ [])))
-          go (inl k) = inl k
-          go (inr k) = inr (in_left r.shelf (e ∷ []) k)
-      there_now d (inr p) = inr (subst (λ (b : Edit E). b ∈ (r.shelf ++ (e ∷ []))) (sym p) (in_last r.shelf e))
+      there_now : (d : Edit E) → d ∈ (acc ++ (e ∷ [])) → (d ∈ log) ⊎ (d ∈ (r.shelf ++ (e ∷ [])))
+      there_now = each_snoc (λ (d : Edit E). (d ∈ log) ⊎ (d ∈ (r.shelf ++ (e ∷ [])))) acc e
+          (λ d k. ⊎_map (λ i. i) (λ i. in_left r.shelf (e ∷ []) i) ((S.accepted d).0 k)) (inr (in_last r.shelf e))
 
       back : (d : Edit E) → (d ∈ log) ⊎ (d ∈ (r.shelf ++ (e ∷ []))) → d ∈ (acc ++ (e ∷ []))
       back d (inl m) = in_left acc (e ∷ []) ((S.accepted d).1 (inl m))
-      back d (inr m) = go (in_snoc r.shelf e m)
-        where
-          go : (d ∈ r.shelf) ⊎ (d ≡ e) → d ∈ (acc ++ (e ∷ []))
-          go (inl k) = in_left acc (e ∷ []) ((S.accepted d).1 (inr k))
-          go (inr p) = subst (λ (b : Edit E). b ∈ (acc ++ (e ∷ []))) (sym p) (in_last acc e)
+      back d (inr m) = sub_snoc (λ b k. in_left acc (e ∷ []) ((S.accepted b).1 (inr k))) (in_last acc e) d m
 
   unmoved : {r : Replica E} {acc log : List (Edit E)} → Sound before r acc log → After before log r (acc ++ [])
   unmoved {r} {acc} {log} S = subst (After before log r) (sym (append-nil acc)) (record { now = log; onward = stays; sound = S })
@@ -158,16 +142,12 @@ module _ {E : Type 0} {before : Id → Id → Bool} where
         A = settle (enrol S e j.1) e s n N.1 (slot_left r e j.2 S.slots)
     by_verdict shelves j = record {
       after = record { now = log; onward = stays; sound = shelve (enrol S e j.1) e s N.0 N.1 (slot_left r e j.2 S.slots) j.4 };
-      settled = λ d m. still d (in_snoc r.shelf e m);
+      settled = each_snoc (λ (d : Edit E). ready r d ≡ false) r.shelf e rest j.3;
       grows = λ n q. let z : 0 ≡ n = cc in omega (arith, z);
     }
       where
         N : (e.id ∉ edit_ids log) × (e.id ∉ edit_ids r.shelf)
         N = unknown_new S e j.0
-
-        still : (d : Edit E) → (d ∈ r.shelf) ⊎ (d ≡ e) → ready r d ≡ false
-        still d (inl m) = rest d m
-        still d (inr p) = subst (λ (b : Edit E). ready r b ≡ false) (sym p) j.3
 
     pub takes : Takes before r acc log e (take_in before e r)
     takes = by_verdict (verdict e r) (judged_by e.id (is_known r e.id) (not (listed r e.id.editor) && leb most_editors (length r.roster))

@@ -4,7 +4,7 @@ use Rattle.runs.specs.Replicas.{Editor}
 use Rattle.order.specs.Lists.{◌∈◌, here, there}
 use Rattle.edits.specs.Edits.{stamp_of}
 use Rattle.edits.specs.declared.edit.Edit.{Edit as Carried}
-use Rattle.std.proofs.Common.{◌≡◌, ℕ, suc, ◌-◌, ◌<◌, ◌≤◌, true, false, ◌&&◌, eqb, ltb, leb, ◌⊎◌, List, [], ◌∷◌, length, sym, refl, subst, inl, inr, arith, ltb-true, eqb-true, leb-true}
+use Rattle.std.proofs.Common.{◌≡◌, ℕ, suc, ◌-◌, ◌<◌, ◌≤◌, true, false, ◌&&◌, eqb, ltb, leb, ◌⊎◌, List, [], ◌∷◌, length, refl, subst, inl, inr, arith, ltb-true, eqb-true, leb-true}
 use Rattle.std.proofs.lemmas.Bool.{cases_Bool, and_parts}
 use mathlib.Core.Bool.{false≢true}
 use Rattle.edits.specs.declared.id.Id.{Id}
@@ -19,6 +19,7 @@ use Rattle.edits.specs.Clocks.{pairs_of, clock_kept}
 use Rattle.edits.specs.Pairs.{count_of, ascending}
 use Rattle.edits.specs.Rules.{covers, parent_kept, own_kept}
 use Rattle.order.specs.Edits.{insertion, Covers, Refers, Lawful}
+use Rattle.order.proofs.Lists.{each_cons}
 use Rattle.runs.specs.Carried.{clock_of, edit_of, ByteWide}
 
 -- the rules of a stamp, one by one
@@ -69,18 +70,12 @@ counted_listed (p ∷ ps) i one = go (cases_Bool (eqb p.editor i)) (counted_list
 
 -- listed editors ascend from 1 on
 listed_above : (low : ℕ) (ps : List Pair) → ascending low ps ≡ true → (p : Pair) → p ∈ ps → low < p.editor
-listed_above low [] t p m = elim m [ ]
-listed_above low (q ∷ ps) t p m = go m (listed_above q.editor ps)
-  where
-    first : (ltb low q.editor ≡ true) × ((ltb 0 q.count && ascending q.editor ps) ≡ true)
-    first = and_parts (ltb low q.editor) (ltb 0 q.count && ascending q.editor ps) t
-
-    above : low < q.editor
-    above = ltb-true low q.editor first.0
-
-    go : p ∈ (q ∷ ps) → (ascending q.editor ps ≡ true → (c : Pair) → c ∈ ps → q.editor < c.editor) → low < p.editor
-    go (here e) ih = subst (λ (c : Pair). low < c.editor) (sym e) above
-    go (there k) ih = let later = ih (and_parts (ltb 0 q.count) (ascending q.editor ps) first.1).1 p k in omega (arith, above, later)
+listed_above low [] t = λ p m. elim m [ ]
+listed_above low (q ∷ ps) t =
+    let first = and_parts (ltb low q.editor) (ltb 0 q.count && ascending q.editor ps) t in
+    let above = ltb-true low q.editor first.0 in
+    let later = listed_above q.editor ps (and_parts (ltb 0 q.count) (ascending q.editor ps) first.1).1 in
+    each_cons (λ (p : Pair). low < p.editor) q ps above (λ p m. let more = later p m in omega (arith, above, more))
 
 pub carried_sound : {E : Type 0} (x : Carried E) → ByteWide x → SoundEdit (edit_of x)
 carried_sound x wide = record {

@@ -1,5 +1,5 @@
 -- The format `numbers` keeps its law: what is written is read back, ghost fields included, since a test passes in one way only.
-use Rattle.std.proofs.Common.{◌≡◌, ℕ, zero, suc, ◌+◌, ◌≤◌, Bool, true, false, eqb, leb, List, [], ◌∷◌, length, Some, None, Option, sym, refl, ap, ◌∙◌, subst, arith, eqb-true, leb-true}
+use Rattle.std.proofs.Common.{◌≡◌, ℕ, zero, suc, ◌+◌, ◌≤◌, Bool, true, false, eqb, leb, List, [], ◌∷◌, length, Some, None, Option, refl, ap, ◌∙◌, subst, arith, eqb-true, leb-true}
 use Rattle.std.proofs.lemmas.Bool.{and_parts}
 use Rattle.std.specs.List.{list_all}
 use mathlib.Core.Bool.{false≢true, Bool-set}
@@ -12,8 +12,8 @@ use Rattle.edits.specs.declared.edit.Parent.TheVariants.{Start, Entry}
 use Rattle.edits.specs.declared.edit.Stamp.{Stamp}
 use Rattle.edits.specs.declared.edit.Edit.{Edit as Carried}
 use Rattle.edits.specs.declared.edit.Edit.TheVariants.{Insertion, Deletion}
-use Rattle.order.specs.Lists.{◌∈◌, here, there}
-use Rattle.order.proofs.Lists.{in_nil}
+use Rattle.order.specs.Lists.{◌∈◌, here}
+use Rattle.order.proofs.Lists.{in_nil, each_cons}
 use Rattle.edits.specs.Clocks.{pairs_of}
 use Rattle.edits.specs.Rules.{parent_kept, covers}
 use Rattle.runs.specs.Channels.{Bytes, AllFit, KeepsLaw, Packed}
@@ -91,15 +91,9 @@ some_numbers (Deletion d) = omega arith
 -- WHAT A RECORD HOLDS
 
 small_bytes : (r : Bytes) → list_all (λ n. leb n 255) r ≡ true → (b : ℕ) → b ∈ r → b ≤ 255
-small_bytes [] t b m = absurd (in_nil m)
-small_bytes (n ∷ r) t b m = go m (small_bytes r both.1 b)
-  where
-    both : (leb n 255 ≡ true) × (list_all (λ n. leb n 255) r ≡ true)
-    both = and_parts (leb n 255) (list_all (λ n. leb n 255) r) t
-
-    go : b ∈ (n ∷ r) → (b ∈ r → b ≤ 255) → b ≤ 255
-    go (here p) ih = subst (λ (k : ℕ). k ≤ 255) (sym p) (leb-true n 255 both.0)
-    go (there k) ih = ih k
+small_bytes [] t = λ b m. absurd (in_nil m)
+small_bytes (n ∷ r) t = let both = and_parts (leb n 255) (list_all (λ n. leb n 255) r) t in
+    each_cons (λ (b : ℕ). b ≤ 255) n r (leb-true n 255 both.0) (small_bytes r both.1)
 
 -- HOW MANY EDITS ARE READ
 

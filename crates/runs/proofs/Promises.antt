@@ -1,20 +1,19 @@
 -- The promises hold of every run.
-use Rattle.std.proofs.Common.{◌≡◌, ℕ, zero, suc, ◌-◌, ◌<◌, ◌≤◌, Bool, true, false, not, ◌&&◌, eqb, ◌⊎◌, ◌↔◌, List, [], ◌∷◌, ◌++◌, map, length, Some, None, Option, sym, refl, ap, ◌∙◌, subst, inl, inr, arith, eqb-true}
+use Rattle.std.proofs.Common.{◌≡◌, ℕ, zero, suc, ◌-◌, ◌<◌, ◌≤◌, Bool, true, false, not, ◌&&◌, eqb, ◌⊎◌, ◌↔◌, List, [], ◌∷◌, map, length, Some, None, Option, sym, refl, ap, ◌∙◌, subst, inl, inr, arith, eqb-true}
 use Rattle.std.proofs.lemmas.Bool.{both_ways, cases_Bool, false_from_ne_true}
-use Rattle.std.proofs.lemmas.List.{map-append}
 use Rattle.edits.specs.declared.id.Id.{Id}
 use Rattle.edits.specs.declared.fault.Fault.{Fault}
 use Rattle.edits.specs.Ids.{same}
 use Rattle.runs.proofs.Calls.{own_is}
 use Rattle.order.specs.Lists.{◌∈◌, here, ◌⊆◌}
-use Rattle.order.specs.Edits.{Clock, Edit, Covers, Order, is_insertion}
+use Rattle.order.specs.Edits.{Clock, Edit, Order, is_insertion}
 use Rattle.order.specs.Forests.{Entry, read, visible, apply, tree}
 use Rattle.order.specs.Histories.{count, stands, as_shown, standing, deletes}
 use Rattle.order.specs.Systems.{Making, making_edit, edits_of}
 use Rattle.order.specs.Theorems.{PutAt, HiddenAt}
-use Rattle.order.proofs.Lists.{any_true, in_left, keep_alike, any_same, of_map}
+use Rattle.order.proofs.Lists.{any_true, keep_alike, any_same, of_map}
 use Rattle.order.proofs.Histories.{in_ids, one_each, count_part, counted, ids_sub}
-use Rattle.order.proofs.Systems.{Facts, facts, becomes_entry}
+use Rattle.order.proofs.Systems.{Facts, facts, has_own, edits_more, becomes_entry}
 use Rattle.order.proofs.Entries.{part_in_order}
 use Rattle.order.proofs.Systems as systems
 use Rattle.order.proofs.Interleaving.{no_interleaving}
@@ -36,14 +35,11 @@ release_none {E} before (suc n) r rest = go (pick (ready r) r.shelf) (picks (rea
     go nothing k = refl
     go (picked e others) k = absurd (both_ways _ (rest e k.member) k.passes)
 
-edit_more : {E X : Type 0} (v : World E X) (ms : List (Making E)) → edits_of v.makings ⊆ edits_of (v.makings ++ ms)
-edit_more {E} v ms e m = subst (λ (l : List (Edit E)). e ∈ l) (sym (map-append making_edit v.makings ms)) (in_left (edits_of v.makings) (edits_of ms) m)
-
 -- calls only add to what was made
 module _ {E X : Type 0} {before : Id → Id → Bool} {meaning : X → Edit E} where
   step_more : {v w : World E X} → Step before meaning v w → edits_of v.makings ⊆ edits_of w.makings
-  step_more {v} (worlds.inserts i k x ed) = edit_more v _
-  step_more {v} (worlds.deletes i k ed) = edit_more v _
+  step_more {v} (worlds.inserts i k x ed) = edits_more v.makings _
+  step_more {v} (worlds.deletes i k ed) = edits_more v.makings _
   step_more (sends c xs rest rs k made fit sent) = λ e m. m
   step_more (fetches i c n k xs ed t q) = λ e m. m
   step_more (misreads c n k t q) = λ e m. m
@@ -161,13 +157,8 @@ module _ {E X : Type 0} {before : Id → Id → Bool} (O : Order before) (meanin
   no_own_waits i = false_from_ne_true (own_waits (w.replicas i)) (λ t. out (any_true (λ (e : Edit E). eqb e.id.editor (own (w.replicas i))) (w.replicas i).shelf t))
     where
       out : (d : Edit E) × (d ∈ (w.replicas i).shelf) × (eqb d.id.editor (own (w.replicas i)) ≡ true) → ⊥
-      out u = ((S.sound i).waiting u.0 u.1).1 ((counted (F.each i)).full u.0.id (c.0, subst (λ (n : ℕ). u.0.id.number ≤ n) (sym same_count) c.1))
-        where
-          c : Covers (count (edits_of w.makings)) u.0.id
-          c = (counted F.all).within u.0.id (in_ids (edits_of w.makings) (S.honest i u.0 (((S.sound i).accepted u.0).1 (inr u.1))))
-
-          same_count : count (S.logs i) u.0.id.editor ≡ count (edits_of w.makings) u.0.id.editor
-          same_count = subst (λ (j : ℕ). count (S.logs i) j ≡ count (edits_of w.makings) j) (sym (eqb-true u.0.id.editor (own (w.replicas i)) u.2 ∙ own_number i)) (F.own i)
+      out u = ((S.sound i).waiting u.0 u.1).1 (has_own F i u.0.id (eqb-true u.0.id.editor (own (w.replicas i)) u.2 ∙ own_number i)
+          (in_ids (edits_of w.makings) (S.honest i u.0 (((S.sound i).accepted u.0).1 (inr u.1)))))
 
   pub kept : Kept before meaning w
   unfolding F

@@ -6,7 +6,7 @@ use Rattle.edits.specs.declared.fault.Fault.{Fault}
 use Rattle.order.specs.Lists.{◌∈◌, here, there}
 use Rattle.order.specs.Edits.{Edit}
 use Rattle.order.specs.Systems.{Making, edits_of}
-use Rattle.order.proofs.Lists.{any_true, in_left, in_last, in_snoc, in_nil}
+use Rattle.order.proofs.Lists.{any_true, in_left, in_last, each_snoc, in_nil}
 use Rattle.runs.specs.Replicas.{Replica, new, placed, with_shelf, listed, enrolled, Verdict, knows, refuses, applies, shelves, Answer, known, refused, taken, verdict, applied, release, judge, take_in, commit, after_one, take_all}
 use Rattle.runs.specs.Worlds.{made_by}
 use Rattle.runs.specs.Promises.{Rostered, accepted_by}
@@ -71,13 +71,10 @@ module _ {E : Type 0} where
       now (inl m) = old ((R i).0 m)
       now (inr p) = inr (e, in_last acc e, sym p)
 
-      by_edit : (d : Edit E) → d.id.editor ≡ i → (d ∈ acc) ⊎ (d ≡ e) → i ∈ r'.roster
-      by_edit d p (inl m) = (joins i).1 (inl ((R i).1 (inr (d, m, p))))
-      by_edit d p (inr q) = (joins i).1 (inr (sym p ∙ ap (λ (b : Edit E). b.id.editor) q))
-
       back : Belongs i r'.editor (acc ++ (e ∷ [])) → i ∈ r'.roster
       back (inl p) = (joins i).1 (inl ((R i).1 (inl (sym same ∙ p))))
-      back (inr u) = by_edit u.0 u.2 (in_snoc acc e u.1)
+      back (inr u) = each_snoc (λ (d : Edit E). d.id.editor ≡ i → i ∈ r'.roster) acc e
+          (λ d m p. (joins i).1 (inl ((R i).1 (inr (d, m, p))))) (λ p. (joins i).1 (inr (sym p))) u.0 u.1 u.2
 
   same_rostered : (r : Replica E) (acc : List (Edit E)) → Rostered r acc → Rostered r (acc ++ [])
   same_rostered r acc R = subst (λ (l : List (Edit E)). Rostered r l) (sym (append-nil acc)) R

@@ -1,17 +1,18 @@
 -- Every run of the calls is one of replicas that make edits and take them in: each replica has a log of what it applied.
-use Rattle.std.proofs.Common.{◌≡◌, ℕ, zero, suc, ◌<◌, ◌≤◌, Bool, false, ltb, leb, ◌⊎◌, List, [], ◌∷◌, ◌++◌, map, length, get_or, take, drop, Some, None, Option, sym, refl, ap, ◌∙◌, subst, inl, inr, append_assoc, append-nil, ltb-false, leb-false}
+use Rattle.std.proofs.Common.{◌≡◌, ℕ, ◌<◌, ◌≤◌, Bool, false, ltb, leb, List, [], ◌∷◌, ◌++◌, map, length, get_or, take, drop, Some, None, Option, sym, refl, ap, ◌∙◌, subst, inl, inr, append_assoc, append-nil, take-append-drop, ltb-false, leb-false}
 use mathlib.Core.Path.{fun_ext}
 use Rattle.std.proofs.lemmas.List.{map-append}
 use Rattle.std.proofs.lemmas.Option.{none-some, same_Some}
 use Rattle.edits.specs.declared.id.Id.{Id}
 use Rattle.edits.specs.declared.fault.Fault.{Fault}
-use Rattle.order.specs.Lists.{◌∈◌, here, there, ◌⊆◌, with_at}
+use Rattle.order.specs.Lists.{◌∈◌, ◌⊆◌, with_at}
 use Rattle.order.specs.Edits.{Change, Edit, Lawful}
 use Rattle.order.specs.Forests.{Forest, visible, tree}
 use Rattle.order.specs.Placing.{insertion_at, deletion_at}
 use Rattle.order.specs.Histories.{Next}
 use Rattle.order.specs.Systems.{Making, making_edit, edits_of, new_edit, extended, insertion_made, deletion_made, Reached, begin, inserts, deletes, takes_in}
-use Rattle.order.proofs.Lists.{in_left, in_split, in_snoc, in_last, in_getD, of_map, at_it, at_other, at_each}
+use Rattle.order.proofs.Lists.{in_left, in_right, in_split, in_snoc, each_snoc, sub_snoc, in_last, in_getD, in_map, of_map, at_it, at_other, at_each}
+use Rattle.order.proofs.Systems.{edits_more}
 use Rattle.order.proofs.Making.{insertion_lawful, deletion_lawful}
 use Rattle.runs.specs.Replicas.{Editor, Replica, new, declined, edited, own_waits, used_up, next_id, full, no_insert, no_delete, own_insertion, own_deletion, settled, applied_with, commit, insert, delete, Intake, take_all}
 use Rattle.runs.specs.Channels.{Bytes, Channel, Taken, Format, AllFit, KeepsLaw, Cut, uncut, one_cut, Puts, none_put, one_put, Sent, Line}
@@ -38,15 +39,10 @@ at_two P f g i x y it others = at_each (λ j z. P j z (with_at g i y j)) f i x (
     (λ j ne. subst (P j (f j)) (sym (at_other g i y j ne)) (others j ne))
 
 in_take : {X : Type 0} (n : ℕ) (xs : List X) → take n xs ⊆ xs
-in_take zero xs x m = elim m [ ]
-in_take (suc n) [] x m = elim m [ ]
-in_take (suc n) (y ∷ xs) x (here p) = here p
-in_take (suc n) (y ∷ xs) x (there m) = there (in_take n xs x m)
+in_take n xs x m = subst (λ (l : List _). x ∈ l) (take-append-drop n xs) (in_left (take n xs) (drop n xs) m)
 
 in_drop : {X : Type 0} (n : ℕ) (xs : List X) → drop n xs ⊆ xs
-in_drop zero xs x m = m
-in_drop (suc n) [] x m = elim m [ ]
-in_drop (suc n) (y ∷ xs) x m = there (in_drop n xs x m)
+in_drop n xs x m = subst (λ (l : List _). x ∈ l) (take-append-drop n xs) (in_right (take n xs) (drop n xs) m)
 
 -- the records of a channel are read as edits that were made
 abbrev Known : {X Y : Type 0} → (X → Y) → List Y → Line X → Type 0
@@ -147,29 +143,22 @@ module _ {E X : Type 0} (before : Id → Id → Bool) (meaning : X → Edit E) w
     settled = at_all Settled w.replicas i r rest S.settled;
     roster = at_two (λ j r' acc. Rostered r' acc) w.replicas w.accepted i _ _ on_roster (λ j ne. S.roster j);
     owner = at_each (λ j r'. r'.editor ≡ Some j) w.replicas i r (same-editor ∙ S.owner i) (λ j ne. S.owner j);
-    honest = at_all (λ (acc : List (Edit E)). acc ⊆ edits_of (w.makings ++ (m ∷ []))) w.accepted i _ (λ d k. own d (in_snoc (w.accepted i) m.edit k)) (λ j d k. wider d (S.honest j d k));
-    edits = λ d k. each d (in_snoc (edits_of w.makings) m.edit (subst (λ (l : List (Edit E)). d ∈ l) same k));
+    honest = at_all (λ (acc : List (Edit E)). acc ⊆ edits_of (w.makings ++ (m ∷ []))) w.accepted i _ own (λ j d k. wider d (S.honest j d k));
+    edits = subst (λ (l : List (Edit E)). (d : Edit E) → d ∈ l → SoundEdit d) (sym (map-append making_edit w.makings (m ∷ [])))
+        (each_snoc SoundEdit (edits_of w.makings) m.edit S.edits s);
     records = λ c b k xs q x o. wider (meaning x) (S.records c b k xs q x o);
     formats = S.formats;
   }
     where
-      same : edits_of (w.makings ++ (m ∷ [])) ≡ edits_of w.makings ++ (m.edit ∷ [])
-      same = map-append making_edit w.makings (m ∷ [])
-
       wider : edits_of w.makings ⊆ edits_of (w.makings ++ (m ∷ []))
-      wider d k = subst (λ (l : List (Edit E)). d ∈ l) (sym same) (in_left (edits_of w.makings) (m.edit ∷ []) k)
+      wider = edits_more w.makings (m ∷ [])
 
-      own : (d : Edit E) → (d ∈ w.accepted i) ⊎ (d ≡ m.edit) → d ∈ edits_of (w.makings ++ (m ∷ []))
-      own d (inl k) = wider d (S.honest i d k)
-      own d (inr p) = subst (λ (l : List (Edit E)). d ∈ l) (sym same) (subst (λ (b : Edit E). b ∈ (edits_of w.makings ++ (m.edit ∷ []))) (sym p) (in_last (edits_of w.makings) m.edit))
-
-      each : (d : Edit E) → (d ∈ edits_of w.makings) ⊎ (d ≡ m.edit) → SoundEdit d
-      each d (inl k) = S.edits d k
-      each d (inr p) = subst SoundEdit (sym p) s
+      own : (w.accepted i ++ (m.edit ∷ [])) ⊆ edits_of (w.makings ++ (m ∷ []))
+      own = sub_snoc (λ d k. wider d (S.honest i d k)) (in_map making_edit (w.makings ++ (m ∷ [])) (in_last w.makings m))
 
       M : Moved before (w.makings ++ (m ∷ [])) (extended S.logs i m.edit) i A.now
       M = moves (extended S.logs i m.edit) i reach (subst (λ (l : List (Edit E)). Onward (λ (e : Edit E). e ∈ edits_of (w.makings ++ (m ∷ []))) l A.now) (sym (at_it S.logs i _))
-          (on_as (λ d k. own d (in_snoc (w.accepted i) m.edit k)) A.onward))
+          (on_as own A.onward))
 
   module _ (w : World E X) (S : Sim w) (i : ℕ) (ed : Editor i) where
     -- what the replica makes is what the theory makes

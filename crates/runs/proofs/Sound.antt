@@ -1,6 +1,7 @@
 -- What every call at one replica keeps, whatever edits come in.
 use Rattle.std.proofs.Common.{◌≡◌, ℕ, zero, suc, ◌+◌, ◌≤◌, Bool, true, false, eqb, leb, ◌⊎◌, ◌↔◌, List, [], ◌∷◌, ◌++◌, length, sym, refl, ap, ◌∙◌, subst, inl, inr, arith, length-append, eqb-true, leb-false}
 use Rattle.std.proofs.lemmas.Bool.{both_ways, cases_Bool, eqb-false, or_parts}
+use mathlib.Core.Logic.{⊎_map}
 use mathlib.Core.Path.{fun_ext}
 use lib.ListN.{length-map}
 use Rattle.edits.specs.declared.id.Id.{Id}
@@ -11,7 +12,7 @@ use Rattle.order.specs.Edits.{Clock, Change, insertion, deletion, Edit, Covers, 
 use Rattle.order.specs.Forests.{Entry, Forest, read, ids, hide, apply, tree}
 use Rattle.order.specs.Histories.{edit_ids, count, Next, History, more}
 use Rattle.order.proofs.Ids.{eq_same}
-use Rattle.order.proofs.Lists.{any_false, in_left, in_last, in_snoc, Distinct, in_nil}
+use Rattle.order.proofs.Lists.{any_false, in_left, in_last, each_snoc, sub_snoc, Distinct, in_nil}
 use Rattle.order.proofs.Growing.{Effect, grew_length, effect}
 use Rattle.order.proofs.Histories.{tree_snoc, in_ids, of_ids, ids_snoc, count_own, count_other, counted, next_number}
 use Rattle.order.proofs.Entries.{entries}
@@ -108,7 +109,7 @@ module _ {E : Type 0} where
       history = more e S.history s.lawful n;
       forest = ap (apply before e) S.forest ∙ sym (tree_snoc before log e);
       clock = fun_ext (λ i. at i (cases_Bool (eqb i e.id.editor)));
-      makers = λ d m. maker d (in_snoc log e m);
+      makers = each_snoc (λ (d : Edit E). Editor d.id.editor) log e S.makers s.maker;
       waiting = λ d m. ((S.waiting d (sub d m)).0, λ k. not_there d m (ids_snoc log e k));
       apart = apart;
       accepted = same-acc;
@@ -125,10 +126,6 @@ module _ {E : Type 0} where
         at i (inl t) = rw t (next_number (counted S.history) e s.lawful n ∙ sym (count_own log e) ∙ ap (count (log ++ (e ∷ []))) (sym (eqb-true i e.id.editor t)))
         at i (inr t) = rw t (count_clock i ∙ sym (count_other log e i (λ p. eqb-false i e.id.editor t (sym p))))
 
-        maker : (d : Edit E) → (d ∈ log) ⊎ (d ≡ e) → Editor d.id.editor
-        maker d (inl m) = S.makers d m
-        maker d (inr p) = subst (λ (b : Edit E). Editor b.id.editor) (sym p) s.maker
-
         not_there : (d : Edit E) → d ∈ others → (d.id ∈ edit_ids log) ⊎ (d.id ≡ e.id) → ⊥
         not_there d m (inl k) = (S.waiting d (sub d m)).1 k
         not_there d m (inr p) = out (subst (λ (a : Id). a ∈ edit_ids others) p (in_ids others m))
@@ -141,23 +138,12 @@ module _ {E : Type 0} where
         (let l = length-append acc (e ∷ []) in let z = S.sizes in omega (arith, l, z)) slot S.room
       where
         there_now : (d : Edit E) → d ∈ (acc ++ (e ∷ [])) → (d ∈ (log ++ (e ∷ []))) ⊎ (d ∈ r.shelf)
-        there_now d m = go (in_snoc acc e m)
-          where
-            old : (d ∈ log) ⊎ (d ∈ r.shelf) → (d ∈ (log ++ (e ∷ []))) ⊎ (d ∈ r.shelf)
-            old (inl k) = inl (in_left log (e ∷ []) k)
-            old (inr k) = inr k
-
-            go : (d ∈ acc) ⊎ (d ≡ e) → (d ∈ (log ++ (e ∷ []))) ⊎ (d ∈ r.shelf)
-            go (inl k) = old ((S.accepted d).0 k)
-            go (inr p) = inl (subst (λ (b : Edit E). b ∈ (log ++ (e ∷ []))) (sym p) (in_last log e))
+        there_now = each_snoc (λ (d : Edit E). (d ∈ (log ++ (e ∷ []))) ⊎ (d ∈ r.shelf)) acc e
+            (λ d k. ⊎_map (λ i. in_left log (e ∷ []) i) (λ i. i) ((S.accepted d).0 k)) (inl (in_last log e))
 
         back : (d : Edit E) → (d ∈ (log ++ (e ∷ []))) ⊎ (d ∈ r.shelf) → d ∈ (acc ++ (e ∷ []))
         back d (inr k) = in_left acc (e ∷ []) ((S.accepted d).1 (inr k))
-        back d (inl m) = go (in_snoc log e m)
-          where
-            go : (d ∈ log) ⊎ (d ≡ e) → d ∈ (acc ++ (e ∷ []))
-            go (inl k) = in_left acc (e ∷ []) ((S.accepted d).1 (inl k))
-            go (inr p) = subst (λ (b : Edit E). b ∈ (acc ++ (e ∷ []))) (sym p) (in_last acc e)
+        back d (inl m) = sub_snoc (λ b k. in_left acc (e ∷ []) ((S.accepted b).1 (inl k))) (in_last acc e) d m
 
     -- a waiting edit that is ready leaves the shelf
     pub apply_waiting : (e : Edit E) (others : List (Edit E)) → Picked (ready r) r.shelf e others
@@ -189,11 +175,7 @@ module _ {E : Type 0} where
 
         back : (d : Edit E) → (d ∈ (log ++ (e ∷ []))) ⊎ (d ∈ others) → d ∈ acc
         back d (inr j) = (S.accepted d).1 (inr (k.sub d j))
-        back d (inl m) = go (in_snoc log e m)
-          where
-            go : (d ∈ log) ⊎ (d ≡ e) → d ∈ acc
-            go (inl j) = (S.accepted d).1 (inl j)
-            go (inr p) = (S.accepted d).1 (inr (subst (λ (b : Edit E). b ∈ r.shelf) (sym p) k.member))
+        back d (inl m) = sub_snoc (λ b j. (S.accepted b).1 (inl j)) ((S.accepted e).1 (inr k.member)) d m
 
   -- a replica after a call: what it has applied then
   pub record After (before : Id → Id → Bool) (log : List (Edit E)) (r : Replica E) (acc : List (Edit E)) : Type 0 where

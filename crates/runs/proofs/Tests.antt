@@ -1,12 +1,13 @@
 -- What the tests of a replica say.
-use Rattle.std.proofs.Common.{◌≡◌, ℕ, zero, suc, ◌+◌, ◌≤◌, Bool, true, false, cond, leb, ◌⊎◌, List, [], ◌∷◌, length, Some, None, Option, refl, ap, ◌∙◌, subst, inl, inr, arith, le-leb, leb-false, leb-true}
+use Rattle.std.proofs.Common.{◌≡◌, ℕ, zero, suc, ◌+◌, ◌≤◌, Bool, true, false, cond, leb, ◌⊎◌, List, [], ◌∷◌, length, Some, None, Option, refl, ap, subst, inl, inr, arith, le-leb, leb-false, leb-true}
 use Rattle.std.proofs.lemmas.Bool.{cases_Bool, and_parts}
+use mathlib.Core.Logic.{⊎_map}
 use Rattle.edits.specs.declared.id.Id.{Id}
 use Rattle.edits.specs.declared.fault.Fault.{Fault}
 use Rattle.order.specs.Lists.{◌∈◌, here, there, ◌∉◌, keep}
 use Rattle.order.specs.Edits.{Clock, Edit}
 use Rattle.order.specs.Histories.{edit_id, edit_ids}
-use Rattle.order.proofs.Lists.{in_map, Distinct}
+use Rattle.order.proofs.Lists.{in_map, each_cons, Distinct}
 use Rattle.order.proofs.Histories.{ids_sub}
 use Rattle.runs.specs.Replicas.{within, placed, inserts, Verdict, knows, refuses, applies, shelves, Pick, nothing, picked, behind, pick, judged, barred}
 
@@ -88,29 +89,17 @@ module _ {E : Type 0} where
   Picks p es (picked e others) = Picked p es e others
 
   picks_behind : (p : Edit E → Bool) (d : Edit E) (es : List (Edit E)) → p d ≡ false → (k : Pick E) → Picks p es k → Picks p (d ∷ es) (behind d k)
-  picks_behind p d es f nothing none = all
-    where
-      all : (c : Edit E) → c ∈ (d ∷ es) → p c ≡ false
-      all c (here q) = ap p q ∙ f
-      all c (there m) = none c m
+  picks_behind p d es f nothing none = each_cons (λ (c : Edit E). p c ≡ false) d es f none
   picks_behind p d es f (picked e others) k = record {
     passes = k.passes;
     member = there k.member;
-    rest = rest;
-    sub = sub;
+    rest = each_cons (λ (c : Edit E). (c ≡ e) ⊎ (c ∈ (d ∷ others))) d es (inr (here refl)) (λ c m. ⊎_map (λ q. q) (λ n. there n) (k.rest c m));
+    sub = each_cons (λ (c : Edit E). c ∈ (d ∷ es)) d others (here refl) (λ c m. there (k.sub c m));
     fewer = ap suc k.fewer;
     slots = let a = keep_length d es in let b = keep_length d others in let c = k.slots in omega (arith, a, b, c);
     apart = λ a. (((λ m. a.0 (ids_sub others es k.sub d.id m)), (k.apart a.1).0), λ m. out a m);
   }
     where
-      rest : (c : Edit E) → c ∈ (d ∷ es) → (c ≡ e) ⊎ (c ∈ (d ∷ others))
-      rest c (here q) = inr (here q)
-      rest c (there m) = elim (k.rest c m) [ inl q ↦ inl q | inr n ↦ inr (there n) ]
-
-      sub : (c : Edit E) → c ∈ (d ∷ others) → c ∈ (d ∷ es)
-      sub c (here q) = here q
-      sub c (there m) = there (k.sub c m)
-
       out : Distinct (edit_ids (d ∷ es)) → e.id ∈ (d.id ∷ edit_ids others) → ⊥
       out a (here q) = a.0 (subst (λ (i : Id). i ∈ edit_ids es) q (in_map edit_id es k.member))
       out a (there m) = (k.apart a.1).1 m
@@ -119,15 +108,11 @@ module _ {E : Type 0} where
   picks p [] = λ d m. elim m [ ]
   picks p (d ∷ es) = go (p d) refl (picks p es)
     where
-      rest : (c : Edit E) → c ∈ (d ∷ es) → (c ≡ d) ⊎ (c ∈ es)
-      rest c (here q) = inl q
-      rest c (there m) = inr m
-
       go : (b : Bool) → p d ≡ b → Picks p es (pick p es) → Picks p (d ∷ es) (cond b (picked d es) (behind d (pick p es)))
       go true t k = record {
         passes = t;
         member = here refl;
-        rest = rest;
+        rest = each_cons (λ (c : Edit E). (c ≡ d) ⊎ (c ∈ es)) d es (inl refl) (λ c m. inr m);
         sub = λ c m. there m;
         fewer = refl;
         slots = keep_length d es;
