@@ -1,8 +1,7 @@
 -- What is below an entry on a side stands together, next to the entry; and whether an entry has a right child.
 use Rattle.std.proofs.Common.{◌≡◌, Bool, true, false, ◌&&◌, ◌||◌, ◌⊎◌, List, [], ◌∷◌, ◌++◌, Some, sym, refl, ap, ◌∙◌, subst, inl, inr, append_assoc, append-nil}
 use Rattle.std.proofs.lemmas.Option.{same_Some}
-use Rattle.std.proofs.lemmas.Bool.{and_parts, or_left, or_right}
-use mathlib.Core.Bool.{false≢true}
+use Rattle.std.proofs.lemmas.Bool.{false≢true, and_parts, or_left, or_right}
 use Rattle.edits.specs.declared.id.Id.{Id}
 use Rattle.edits.specs.declared.edit.Side.{Side}
 use Rattle.edits.specs.declared.edit.Side.TheVariants.{Left, Right}

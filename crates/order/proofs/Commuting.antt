@@ -1,5 +1,6 @@
 -- Two changes that do not name one another can be applied in either order.
 use Rattle.std.proofs.Common.{◌≡◌, Bool, true, false, cond, not, ◌&&◌, ◌⊎◌, sym, refl, ap, ◌∙◌, inl, inr}
+use Rattle.std.proofs.Math.Bool.{and_assoc, and_comm}
 use Rattle.std.proofs.lemmas.Bool.{both_ways, cases_Bool, false_from_ne_true}
 use Rattle.edits.specs.declared.id.Id.{Id}
 use Rattle.edits.specs.declared.edit.Side.{Side}
@@ -141,11 +142,7 @@ module _ {E : Type 0} (before : Id → Id → Bool) where
 
 -- two tests after another
 and_and : (a b c : Bool) → ((a && b) && c) ≡ ((a && c) && b)
-and_and true true true = refl
-and_and true true false = refl
-and_and true false true = refl
-and_and true false false = refl
-and_and false b c = refl
+and_and a b c = and_assoc a b c ∙ ap (λ (d : Bool). a && d) (and_comm b c) ∙ sym (and_assoc a c b)
 
 module _ {E : Type 0} where
   bury_bury : (t u : Id) (f : Forest E) → bury t (bury u f) ≡ bury u (bury t f)

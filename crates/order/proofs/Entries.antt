@@ -1,8 +1,8 @@
 -- The entries of the tree of a history: which there are, which of them are shown, and in which order.
 use Rattle.std.proofs.Common.{◌≡◌, Bool, true, false, cond, not, ◌&&◌, ◌||◌, ◌⊎◌, List, [], ◌∷◌, ◌++◌, map, sym, refl, ap, ◌∙◌, subst, inl, inr}
-use Rattle.std.proofs.lemmas.Bool.{false_from_ne_true, and_parts, or_cases}
+use mathlib.Core.List.{map-map}
+use Rattle.std.proofs.lemmas.Bool.{false≢true, false_from_ne_true, and_parts, or_cases}
 use Rattle.std.proofs.Math.Bool.{or-false}
-use mathlib.Core.Bool.{false≢true}
 use Rattle.edits.specs.declared.id.Id.{Id}
 use Rattle.edits.specs.declared.edit.Side.{Side}
 use Rattle.edits.specs.declared.edit.Parent.{Parent}
@@ -14,7 +14,7 @@ use Rattle.order.specs.Forests.{Entry, Forest, read, is_shown, entry_id, ids, fr
 use Rattle.order.specs.Histories.{edit_ids, Next, History, empty, more, inserted, deletes, deleted, stands, as_shown, standing}
 use Rattle.order.proofs.Ids.{same_eq, same_refl}
 use Rattle.order.proofs.Lists.{any_true, true_any, any_append, in_left, in_last, of_map, keep_alike, keep_map, Distinct}
-use Rattle.order.proofs.Growing.{Grew, Effect, of_grew, grew_keep, effect, effect_distinct, effect_ids, map_hide}
+use Rattle.order.proofs.Growing.{Grew, Effect, of_grew, grew_keep, effect, effect_distinct, effect_ids}
 use Rattle.order.proofs.Histories.{tree_snoc, in_ids, ids_old, distinct_ids_snoc}
 use Rattle.order.proofs.Reordering.{rest_of, rest_new, rest_distinct, tree_from_part}
 
@@ -149,7 +149,7 @@ module _ {E : Type 0} where
     effect_passing a (insertion (parent.Entry p) s x) xs ys t (inl u) = ap passing u.0
     effect_passing a (insertion (parent.Entry p) s x) xs ys t (inr u) = ap (map as_shown) (grew_keep u.0 passes t)
     effect_passing a (deletion u) xs ys t q = ap passing q
-        ∙ ap (map as_shown) (keep_map (hide u) passes xs) ∙ map_hide as_shown u (λ x. refl) (keep passes xs)
+        ∙ ap (map as_shown) (keep_map (hide u) passes xs) ∙ map-map as_shown (hide u) (keep passes xs)
 
     grown_passing : (f : Forest E) (r : List (Edit E)) → Distinct (ids f) → Distinct (edit_ids r) → ((a : Id) → a ∈ edit_ids r → a ∉ ids f)
         → ((a : Id) → a ∈ edit_ids r → test a ≡ false) → passing (read (grown before f r)) ≡ passing (read f)

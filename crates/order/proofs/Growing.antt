@@ -1,5 +1,6 @@
 -- What a change does to the entries in reading order: one more somewhere, one hidden, or nothing.
 use Rattle.std.proofs.Common.{◌≡◌, suc, Bool, true, false, cond, ◌⊎◌, List, [], ◌∷◌, ◌++◌, map, length, sym, refl, ap, ◌∙◌, subst, inl, inr}
+use mathlib.Core.List.{map-map}
 use Rattle.std.proofs.lemmas.Bool.{both_ways, cases_Bool}
 use Rattle.edits.specs.declared.id.Id.{Id}
 use Rattle.edits.specs.declared.edit.Side.{Side}
@@ -127,21 +128,17 @@ module _ {E : Type 0} (before : Id → Id → Bool) where
   effect a (deletion t) f d = read_bury t f
 
 module _ {E : Type 0} where
-  pub map_hide : {B : Type 0} (g : Entry E → B) (t : Id) → ((x : Entry E) → g (hide t x) ≡ g x) → (xs : List (Entry E)) → map g (map (hide t) xs) ≡ map g xs
-  map_hide g t same-value [] = refl
-  map_hide g t same-value (x ∷ xs) = λ i. same-value x i ∷ map_hide g t same-value xs i
-
   -- identifiers stay apart
   pub effect_distinct : (a : Id) (c : Change E) (xs ys : List (Entry E)) → Effect a c xs ys → a ∉ map entry_id xs → Distinct (map entry_id xs)
       → Distinct (map entry_id ys)
   effect_distinct a (insertion parent.Start s x) xs ys g new d = grew_distinct (grew_map entry_id g) new d
   effect_distinct a (insertion (parent.Entry p) s x) xs ys (inl h) new d = subst (λ (zs : List (Entry E)). Distinct (map entry_id zs)) (sym h.0) d
   effect_distinct a (insertion (parent.Entry p) s x) xs ys (inr h) new d = grew_distinct (grew_map entry_id h.0) new d
-  effect_distinct a (deletion t) xs ys h new d = subst Distinct (sym (ap (map entry_id) h ∙ map_hide entry_id t (λ x. refl) xs)) d
+  effect_distinct a (deletion t) xs ys h new d = subst Distinct (sym (ap (map entry_id) h ∙ map-map entry_id (hide t) xs)) d
 
   -- no identifier but that of the edit is new
   pub effect_ids : (a : Id) (c : Change E) (xs ys : List (Entry E)) → Effect a c xs ys → (b : Id) → b ∈ map entry_id ys → (b ∈ map entry_id xs) ⊎ (b ≡ a)
   effect_ids a (insertion parent.Start s x) xs ys g b m = of_grew (grew_map entry_id g) b m
   effect_ids a (insertion (parent.Entry p) s x) xs ys (inl h) b m = inl (subst (λ (zs : List (Entry E)). b ∈ map entry_id zs) h.0 m)
   effect_ids a (insertion (parent.Entry p) s x) xs ys (inr h) b m = of_grew (grew_map entry_id h.0) b m
-  effect_ids a (deletion t) xs ys h b m = inl (subst (λ (zs : List Id). b ∈ zs) (ap (map entry_id) h ∙ map_hide entry_id t (λ x. refl) xs) m)
+  effect_ids a (deletion t) xs ys h b m = inl (subst (λ (zs : List Id). b ∈ zs) (ap (map entry_id) h ∙ map-map entry_id (hide t) xs) m)

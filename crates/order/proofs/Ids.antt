@@ -1,6 +1,7 @@
 -- Identifiers compared.
 use Rattle.std.proofs.Common.{◌≡◌, ◌<◌, true, false, eqb, ◌⊎◌, sym, refl, subst, inl, inr, arith, ltb-true, lt-ltb, eq-eqb, ne_eqb, eqb-true}
 use Rattle.std.proofs.lemmas.Bool.{both_ways, cases_Bool, cases_order, false_from_ne_true, and_parts}
+use Rattle.std.proofs.Math.Logic.{⊎_map}
 use Rattle.edits.specs.declared.id.Id.{Id}
 use Rattle.edits.specs.Ids.{same, precedes}
 use Rattle.order.specs.Edits.{Order}
@@ -23,11 +24,7 @@ same_apart a b ne = false_from_ne_true (same a b) (λ e. ne (same_eq a b e))
 
 -- the test, with what it says
 pub compare : (a b : Id) → ((same a b ≡ true) × (a ≡ b)) ⊎ ((same a b ≡ false) × (a ≡ b → ⊥))
-compare a b = go (cases_Bool (same a b))
-  where
-    go : (same a b ≡ true) ⊎ (same a b ≡ false) → ((same a b ≡ true) × (a ≡ b)) ⊎ ((same a b ≡ false) × (a ≡ b → ⊥))
-    go (inl e) = inl (e, same_eq a b e)
-    go (inr e) = inr (e, λ p. both_ways _ e (eq_same a b p))
+compare a b = ⊎_map (λ e. (e, same_eq a b e)) (λ e. (e, λ p. both_ways _ e (eq_same a b p))) (cases_Bool (same a b))
 
 -- by editor, then by number
 Less : Id → Id → Type 0

@@ -1,10 +1,9 @@
 -- Members of lists, filters, lists without repetition, order of places, and functions replaced at a place.
-use Rattle.std.proofs.Common.{◌≡◌, ℕ, zero, suc, ◌<◌, Bool, true, false, cond, ◌&&◌, ◌||◌, eqb, ◌⊎◌, List, [], ◌∷◌, ◌++◌, map, length, get_or, sym, refl, ap, ◌∙◌, subst, inl, inr, arith, eq-eqb, ne_eqb, eqb-true}
-use Rattle.std.proofs.lemmas.Bool.{both_ways, cond-false, cond-true, cond_both, eqb-false, false_from_ne_true, or_cases, or_left, or_right}
+use Rattle.std.proofs.Common.{◌≡◌, ℕ, zero, suc, ◌<◌, Bool, true, false, cond, ◌||◌, eqb, ◌⊎◌, List, [], ◌∷◌, ◌++◌, map, length, get_or, sym, refl, ap, ◌∙◌, subst, inl, inr, arith, eq-eqb, ne_eqb, eqb-true}
+use Rattle.std.proofs.lemmas.Bool.{false≢true, both_ways, cond-false, cond-true, cond_both, eqb-false, false_from_ne_true, or_cases, or_left, or_right}
 use Rattle.std.specs.Cmp.{both_ways as same_test}
 use Rattle.std.proofs.Math.Bool.{or_assoc}
-use mathlib.Core.Bool.{false≢true}
-use mathlib.Core.Logic.{⊎_map}
+use Rattle.std.proofs.Math.Logic.{⊎_map}
 use Rattle.edits.specs.declared.id.Id.{Id}
 use Rattle.edits.specs.Ids.{same}
 use Rattle.order.specs.Lists.{◌∈◌, here, there, ◌∉◌, ◌⊆◌, keep, Before, with_at, any}
@@ -51,7 +50,7 @@ module _ {A : Type 0} where
   sub_snoc {xs} {zs} {y} all last = each_snoc (λ (x : A). x ∈ zs) xs y all last
 
   pub in_getD : (xs : List A) (n : ℕ) (d : A) → n < length xs → get_or xs n d ∈ xs
-  in_getD [] n d l = let no : ⊥ = omega arith in absurd no
+  in_getD [] n d l = absurd (omega arith)
   in_getD (x ∷ xs) zero d l = here refl
   in_getD (x ∷ xs) (suc n) d l = there (in_getD xs n d (omega arith))
 
@@ -97,16 +96,6 @@ module _ {A : Type 0} where
   pub keep_all : (p : A → Bool) (xs : List A) → ((x : A) → x ∈ xs → p x ≡ true) → keep p xs ≡ xs
   keep_all p [] f = refl
   keep_all p (x ∷ xs) f = rw (f x (here refl)) (ap (λ (zs : List A). x ∷ zs) (keep_all p xs (λ y m. f y (there m))))
-
-  -- a filter on what another has left
-  pub keep_keep : (p q : A → Bool) (xs : List A) → keep p (keep q xs) ≡ keep (λ (x : A). q x && p x) xs
-  keep_keep p q [] = refl
-  keep_keep p q (x ∷ xs) = go (q x) (keep_keep p q xs)
-    where
-      go : (b : Bool) → keep p (keep q xs) ≡ keep (λ (y : A). q y && p y) xs
-          → keep p (cond b (x ∷ keep q xs) (keep q xs)) ≡ cond (b && p x) (x ∷ keep (λ (y : A). q y && p y) xs) (keep (λ (y : A). q y && p y) xs)
-      go true e = λ i. cond (p x) (x ∷ e i) (e i)
-      go false e = e
 
   -- some element passes
   pub any_true : (p : A → Bool) (xs : List A) → any p xs ≡ true → (x : A) × (x ∈ xs) × (p x ≡ true)

@@ -25,12 +25,12 @@ module _ {E : Type 0} where
 
   neighbour_in : (xs : List (Entry E)) (k : ℕ) (b : Id) → get_or (map (λ (x : Entry E). parent.Entry x.id) xs) k parent.Start ≡ parent.Entry b
       → b ∈ map entry_id xs
-  neighbour_in [] k b e = let no : ⊥ = cc in absurd no
+  neighbour_in [] k b e = absurd (cc)
   neighbour_in (x ∷ xs) zero b e = here (cc)
   neighbour_in (x ∷ xs) (suc k) b e = there (neighbour_in xs k b e)
 
   pub left_neighbour_in : (f : Forest E) (k : ℕ) (b : Id) → left_neighbour k f ≡ parent.Entry b → b ∈ ids f
-  left_neighbour_in f zero b e = let no : ⊥ = cc in absurd no
+  left_neighbour_in f zero b e = absurd (cc)
   left_neighbour_in f (suc k) b e = ids_shown (read f) b (neighbour_in (visible f) k b e)
 
   pub follower_in : (left : Parent) (f : Forest E) (a : Id) → follower left f ≡ Some a → a ∈ ids f
@@ -66,7 +66,7 @@ module _ {E : Type 0} where
 
   neighbour_at : (xs : List (Entry E)) (k : ℕ) → k < length xs
       → get_or (map (λ (x : Entry E). parent.Entry x.id) xs) k parent.Start ≡ parent.Entry (at xs k)
-  neighbour_at [] k h = let no : ⊥ = omega arith in absurd no
+  neighbour_at [] k h = absurd (omega arith)
   neighbour_at (x ∷ xs) zero h = refl
   neighbour_at (x ∷ xs) (suc k) h = neighbour_at xs k (omega arith)
 
@@ -78,7 +78,7 @@ module _ {E : Type 0} where
       (more : (k : ℕ) (x : Entry E) (xs : List (Entry E)) → x ∷ R k xs ≡ R (suc k) (x ∷ xs)) where
     shown_after : (xs : List (Entry E)) → Distinct (map entry_id xs) → (k : ℕ) → k < length (keep is_shown xs)
         → keep is_shown (g (at (keep is_shown xs) k) xs) ≡ R k (keep is_shown xs)
-    shown_after [] d k h = let no : ⊥ = omega arith in absurd no
+    shown_after [] d k h = absurd (omega arith)
     shown_after (x ∷ xs) d k h = go x.shown refl k h (shown_after xs d.1)
       where
         S : List (Entry E)

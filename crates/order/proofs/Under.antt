@@ -1,6 +1,6 @@
 -- Which entries are below an entry on a side, and what a change of the forest does to that.
 use Rattle.std.proofs.Common.{◌≡◌, Bool, true, false, cond, ◌⊎◌, sym, refl, ◌∙◌, inl, inr}
-use mathlib.Core.Logic.{⊎_map}
+use Rattle.std.proofs.Math.Logic.{⊎_map}
 use Rattle.edits.specs.declared.id.Id.{Id}
 use Rattle.edits.specs.declared.edit.Side.{Side}
 use Rattle.edits.specs.declared.edit.Side.TheVariants.{Left, Right}

@@ -1,7 +1,7 @@
 -- One replica, given any edits: its document is the tree of exactly the applied edits.
 use Rattle.std.proofs.Common.{◌≡◌, ℕ, zero, suc, ◌+◌, ◌<◌, ◌≤◌, Bool, true, false, eqb, ltb, leb, ◌⊎◌, List, [], ◌∷◌, ◌++◌, length, Some, None, Option, sym, refl, ap, ◌∙◌, subst, inl, inr, arith, length-append, ltb-false, eqb-true, leb-false}
 use Rattle.std.proofs.lemmas.Bool.{both_ways, cases_Bool, eqb-false}
-use mathlib.Core.Path.{fun_ext}
+use Rattle.std.proofs.Math.Path.{fun_ext}
 use Rattle.edits.specs.declared.id.Id.{Id}
 use Rattle.edits.specs.declared.fault.Fault.{Fault}
 use Rattle.order.specs.Lists.{◌∈◌, ◌⊆◌}
@@ -31,7 +31,7 @@ total_same (suc n) h e l = let ih = total_same n h e (omega arith) in let o = co
 
 total_more : {E : Type 0} (n : ℕ) (h : List (Edit E)) (e : Edit E) → 1 ≤ e.id.editor → e.id.editor ≤ n → total n (count (h ++ (e ∷ []))) ≡ suc (total n (count h))
 unfolding total
-total_more zero h e l u = let no : ⊥ = omega arith in absurd no
+total_more zero h e l u = absurd (omega arith)
 total_more (suc n) h e l u = go (cases_Bool (eqb e.id.editor (suc n))) (total_more n h e l)
   where
     go : (eqb e.id.editor (suc n) ≡ true) ⊎ (eqb e.id.editor (suc n) ≡ false)
@@ -98,7 +98,7 @@ module _ {E : Type 0} where
   -- a reply that is no refusal: the tests let the edit pass, and it is the own edit
   passed : (before : Id → Id → Bool) (r : Replica E) (own m : Making E) (n : ℕ) (used no_index slotless : Bool) (o : Option Fault) → Allowed (own_waits r) used no_index slotless o
       → (commit before o own r).1 ≡ edited m n → (own ≡ m) × (no_index ≡ false)
-  passed before r own m n used no_index slotless (Some f) a q = let no : ⊥ = cc in absurd no
+  passed before r own m n used no_index slotless (Some f) a q = absurd (cc)
   passed before r own m n used no_index slotless None a q = (cc, a.2)
 
   module _ {before : Id → Id → Bool} {r : Replica E} {acc log : List (Edit E)} (S : Sound before r acc log) (i : ℕ) (ed : Editor i) (owner : r.editor ≡ Some i) where

@@ -1,7 +1,7 @@
 -- Taking in, inserting and deleting keep a replica sound.
 use Rattle.std.proofs.Common.{◌≡◌, ℕ, suc, ◌+◌, ◌<◌, ◌≤◌, Bool, true, false, cond, not, ◌&&◌, eqb, ltb, leb, ◌⊎◌, List, [], ◌∷◌, ◌++◌, length, Some, None, Option, sym, refl, ap, ◌∙◌, subst, inl, inr, append-nil, arith, length-append, eq-eqb, leb-false}
 use Rattle.std.proofs.lemmas.Bool.{both_ways}
-use mathlib.Core.Logic.{⊎_map}
+use Rattle.std.proofs.Math.Logic.{⊎_map}
 use Rattle.edits.specs.declared.id.Id.{Id}
 use Rattle.edits.specs.declared.edit.Parent.TheVariants.{Start}
 use Rattle.edits.specs.declared.fault.Fault.{Fault}

@@ -4,9 +4,8 @@ use Rattle.runs.specs.Replicas.{Editor}
 use Rattle.order.specs.Lists.{◌∈◌, here, there}
 use Rattle.edits.specs.Edits.{stamp_of}
 use Rattle.edits.specs.declared.edit.Edit.{Edit as Carried}
-use Rattle.std.proofs.Common.{◌≡◌, ℕ, suc, ◌-◌, ◌<◌, ◌≤◌, true, false, ◌&&◌, eqb, ltb, leb, ◌⊎◌, List, [], ◌∷◌, length, refl, subst, inl, inr, arith, ltb-true, eqb-true, leb-true}
-use Rattle.std.proofs.lemmas.Bool.{cases_Bool, and_parts}
-use mathlib.Core.Bool.{false≢true}
+use Rattle.std.proofs.Common.{◌≡◌, ℕ, suc, ◌-◌, ◌<◌, ◌≤◌, true, false, ◌&&◌, eqb, ltb, leb, ◌⊎◌, List, [], ◌∷◌, refl, subst, inl, inr, arith, ltb-true, eqb-true, leb-true}
+use Rattle.std.proofs.lemmas.Bool.{false≢true, cases_Bool, and_parts}
 use Rattle.edits.specs.declared.id.Id.{Id}
 use Rattle.edits.specs.declared.clock.Pair.{Pair}
 use Rattle.edits.specs.declared.edit.Stamp.{Stamp}
@@ -19,16 +18,17 @@ use Rattle.edits.specs.Clocks.{pairs_of, clock_kept}
 use Rattle.edits.specs.Pairs.{count_of, ascending}
 use Rattle.edits.specs.Rules.{covers, parent_kept, own_kept}
 use Rattle.order.specs.Edits.{insertion, Covers, Refers, Lawful}
+use Rattle.edits.proofs.Conjunctions.{three}
+use Rattle.edits.proofs.Placed.{kept_parts}
 use Rattle.order.proofs.Lists.{each_cons}
 use Rattle.runs.specs.Carried.{clock_of, edit_of, ByteWide}
 
 -- the rules of a stamp, one by one
 pub stamp_rules : (s : Stamp) → (0 < s.id.number) × (clock_kept s.clock ≡ true) × (own_kept s.id (pairs_of s.clock) ≡ true)
 stamp_rules s =
-    let rest = (and_parts (ltb 0 s.id.editor) _ s.kept).1 in
-    let numbered = and_parts (ltb 0 s.id.number) _ rest in
-    let both = and_parts (clock_kept s.clock) (own_kept s.id (pairs_of s.clock)) numbered.1 in
-    (ltb-true 0 s.id.number numbered.0, both.0, both.1)
+    let parts = three (ltb 0 s.id.editor) (ltb 0 s.id.number) (clock_kept s.clock && own_kept s.id (pairs_of s.clock)) s.kept in
+    let both = and_parts (clock_kept s.clock) (own_kept s.id (pairs_of s.clock)) parts.2 in
+    (ltb-true 0 s.id.number parts.1, both.0, both.1)
 
 -- the number of a stamp is one more than its clock counts of its editor
 own_of : (s : Stamp) → suc (clock_of s s.id.editor) ≡ s.id.number
@@ -42,9 +42,8 @@ own_of s =
 -- what the test of an identifier says
 covered : (ps : List Pair) (a : Id) → covers ps a ≡ true → Covers (count_of ps) a
 covered ps a e =
-    let rest = (and_parts (ltb 0 a.editor) _ e).1 in
-    let both = and_parts (ltb 0 a.number) (leb a.number (count_of ps a.editor)) rest in
-    (ltb-true 0 a.number both.0, leb-true a.number (count_of ps a.editor) both.1)
+    let parts = three (ltb 0 a.editor) (ltb 0 a.number) (leb a.number (count_of ps a.editor)) e in
+    (ltb-true 0 a.number parts.1, leb-true a.number (count_of ps a.editor) parts.2)
 
 -- what the test of a parent and a side says
 hung_lawfully : {E : Type 0} (ps : List Pair) (p : Parent) (s : Side) (x : E) → parent_kept ps p s ≡ true → Refers (count_of ps) (insertion p s x)
@@ -61,7 +60,7 @@ carried_lawful (Deletion r) = record { own = own_of r.stamp; refers = covered (p
 
 -- an editor of whom something is counted is listed
 counted_listed : (ps : List Pair) (i : ℕ) → 1 ≤ count_of ps i → (p : Pair) × (p ∈ ps) × (p.editor ≡ i)
-counted_listed [] i one = let no : ⊥ = omega arith in absurd no
+counted_listed [] i one = absurd (omega arith)
 counted_listed (p ∷ ps) i one = go (cases_Bool (eqb p.editor i)) (counted_listed ps i)
   where
     go : (eqb p.editor i ≡ true) ⊎ (eqb p.editor i ≡ false) → (1 ≤ count_of ps i → (q : Pair) × (q ∈ ps) × (q.editor ≡ i)) → (q : Pair) × (q ∈ (p ∷ ps)) × (q.editor ≡ i)
@@ -72,9 +71,9 @@ counted_listed (p ∷ ps) i one = go (cases_Bool (eqb p.editor i)) (counted_list
 listed_above : (low : ℕ) (ps : List Pair) → ascending low ps ≡ true → (p : Pair) → p ∈ ps → low < p.editor
 listed_above low [] t = λ p m. elim m [ ]
 listed_above low (q ∷ ps) t =
-    let first = and_parts (ltb low q.editor) (ltb 0 q.count && ascending q.editor ps) t in
-    let above = ltb-true low q.editor first.0 in
-    let later = listed_above q.editor ps (and_parts (ltb 0 q.count) (ascending q.editor ps) first.1).1 in
+    let parts = three (ltb low q.editor) (ltb 0 q.count) (ascending q.editor ps) t in
+    let above = ltb-true low q.editor parts.0 in
+    let later = listed_above q.editor ps parts.2 in
     each_cons (λ (p : Pair). low < p.editor) q ps above (λ p m. let more = later p m in omega (arith, above, more))
 
 pub carried_sound : {E : Type 0} (x : Carried E) → ByteWide x → SoundEdit (edit_of x)
@@ -89,5 +88,4 @@ carried_sound x wide = record {
     s = stamp_of x
 
     ascends : ascending 0 (pairs_of s.clock) ≡ true
-    ascends = let a = (and_parts (eqb (length s.clock.pairs) 16) _ (stamp_rules s).1).1 in let b = (and_parts (leb s.clock.len 16) _ a).1 in
-        (and_parts (ascending 0 (pairs_of s.clock)) _ b).0
+    ascends = (kept_parts s.clock (stamp_rules s).1).2

@@ -1,8 +1,9 @@
 -- The format `numbers` keeps its law: what is written is read back, ghost fields included, since a test passes in one way only.
-use Rattle.std.proofs.Common.{◌≡◌, ℕ, zero, suc, ◌+◌, ◌≤◌, Bool, true, false, eqb, leb, List, [], ◌∷◌, length, Some, None, Option, refl, ap, ◌∙◌, subst, arith, eqb-true, leb-true}
+use Rattle.std.proofs.Common.{◌≡◌, ℕ, zero, suc, ◌+◌, ◌≤◌, Bool, true, false, leb, List, [], ◌∷◌, length, Some, None, Option, refl, ap, ◌∙◌, subst, arith, leb-true}
 use Rattle.std.proofs.lemmas.Bool.{and_parts}
 use Rattle.std.specs.List.{list_all}
-use mathlib.Core.Bool.{false≢true, Bool-set}
+use Rattle.std.proofs.Math.Bool.{Bool-set}
+use Rattle.std.proofs.lemmas.Bool.{false≢true}
 use Rattle.edits.specs.declared.id.Id.{Id}
 use Rattle.edits.specs.declared.clock.Pair.{Pair}
 use Rattle.edits.specs.declared.edit.Side.{Side}
@@ -20,6 +21,7 @@ use Rattle.runs.specs.Channels.{Bytes, AllFit, KeepsLaw, Packed}
 use Rattle.runs.specs.Numbers.{put_parent, put_side, put_pairs, put_stamp, put_edit, get_number, get_id, parent_by, get_parent, side_by, get_side, get_pairs, get_stamp, edit_by, get_edit}
 use Rattle.runs.specs.Numbers.{if_some, if_passed, stamp_by, insertion_by, deletion_by, put_first, numbers}
 use Rattle.runs.proofs.Carried.{stamp_rules}
+use Rattle.edits.proofs.Placed.{kept_parts}
 
 -- WHAT IS WRITTEN IS READ BACK
 
@@ -71,8 +73,7 @@ pairs_long (p ∷ ps) = let rest = pairs_long ps in omega arith
 stamp_long : (s : Stamp) → length (put_stamp s) ≡ 35
 stamp_long s =
     let c = s.clock in
-    let test = (and_parts (eqb (length c.pairs) 16) _ (stamp_rules s).1).0 in
-    let all : length c.pairs ≡ 16 = eqb-true (length c.pairs) 16 test in
+    let all : length c.pairs ≡ 16 = (kept_parts c (stamp_rules s).1).0 in
     let flat = pairs_long c.pairs in
     omega arith
 
@@ -154,7 +155,7 @@ numbers_lawful = record {
 }
   where
     packing : (xs : List (Carried ℕ)) → 1 ≤ length xs → AllFit numbers xs → Packed get_edit xs (put_first xs).0 (put_first xs).1
-    packing [] some fit = let no : ⊥ = omega arith in absurd no
+    packing [] some fit = absurd (omega arith)
     packing (x ∷ xs) some fit = record {
       bytes = small_bytes (put_edit x) (fit x (here refl));
       some_bytes = some_numbers x;

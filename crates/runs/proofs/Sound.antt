@@ -1,9 +1,9 @@
 -- What every call at one replica keeps, whatever edits come in.
 use Rattle.std.proofs.Common.{◌≡◌, ℕ, zero, suc, ◌+◌, ◌≤◌, Bool, true, false, eqb, leb, ◌⊎◌, ◌↔◌, List, [], ◌∷◌, ◌++◌, length, sym, refl, ap, ◌∙◌, subst, inl, inr, arith, length-append, eqb-true, leb-false}
 use Rattle.std.proofs.lemmas.Bool.{both_ways, cases_Bool, eqb-false, or_parts}
-use mathlib.Core.Logic.{⊎_map}
-use mathlib.Core.Path.{fun_ext}
-use lib.ListN.{length-map}
+use Rattle.std.proofs.Math.Logic.{⊎_map}
+use Rattle.std.proofs.Math.Path.{fun_ext}
+use Rattle.std.proofs.lemmas.List.{length-map, nil_from_length}
 use Rattle.edits.specs.declared.id.Id.{Id}
 use Rattle.edits.specs.declared.edit.Parent.TheVariants as parent
 use Rattle.edits.specs.Ids.{same}
@@ -197,11 +197,7 @@ module _ {E : Type 0} where
 
   -- after as many releases as there are waiting edits none is ready
   pub release_settles : (before : Id → Id → Bool) (n : ℕ) (r : Replica E) → length r.shelf ≤ n → Settled (release before n r)
-  release_settles before zero r le = λ e m. absurd (none r.shelf le e m)
-    where
-      none : (es : List (Edit E)) → length es ≤ 0 → (e : Edit E) → e ∈ es → ⊥
-      none [] l e k = in_nil k
-      none (d ∷ es) l e k = omega arith
+  release_settles before zero r le = λ e m. absurd (in_nil (subst (λ (l : List (Edit E)). e ∈ l) (nil_from_length r.shelf (omega (arith, le))) m))
   release_settles before (suc n) r le = go (pick (ready r) r.shelf) (picks (ready r) r.shelf) (release_settles before n)
     where
       go : (k : Pick E) → Picks (ready r) r.shelf k → ((r' : Replica E) → length r'.shelf ≤ n → Settled (release before n r')) → Settled (go_on before k r (release before n))

@@ -1,7 +1,7 @@
 -- What the tests of a replica say.
 use Rattle.std.proofs.Common.{◌≡◌, ℕ, zero, suc, ◌+◌, ◌≤◌, Bool, true, false, cond, leb, ◌⊎◌, List, [], ◌∷◌, length, Some, None, Option, refl, ap, subst, inl, inr, arith, le-leb, leb-false, leb-true}
 use Rattle.std.proofs.lemmas.Bool.{cases_Bool, and_parts}
-use mathlib.Core.Logic.{⊎_map}
+use Rattle.std.proofs.Math.Logic.{⊎_map}
 use Rattle.edits.specs.declared.id.Id.{Id}
 use Rattle.edits.specs.declared.fault.Fault.{Fault}
 use Rattle.order.specs.Lists.{◌∈◌, here, there, ◌∉◌, keep}
@@ -14,7 +14,7 @@ use Rattle.runs.specs.Replicas.{within, placed, inserts, Verdict, knows, refuses
 -- every editor from 1 to n
 pub within_each : (n : ℕ) (a b : Clock) → within n a b ≡ true → (i : ℕ) → 1 ≤ i → i ≤ n → a i ≤ b i
 unfolding within
-within_each zero a b t i l u = let no : ⊥ = omega arith in absurd no
+within_each zero a b t i l u = absurd (omega arith)
 within_each (suc n) a b t i l u = go (cases_Bool (leb i n)) (within_each n a b)
   where
     both : (leb (a (suc n)) (b (suc n)) ≡ true) × (within n a b ≡ true)

@@ -1,7 +1,7 @@
 -- The worked run, by computing.
 use Rattle.std.proofs.Common.{◌≡◌, ℕ, suc, ◌-◌, ◌<◌, ◌≤◌, Bool, true, false, cond, eqb, leb, List, [], ◌∷◌, ◌++◌, map, length, get_or, set, Some, sym, refl, ap, ◌∙◌, inl, arith, eq-eqb, eqb-true}
 use Rattle.std.specs.Cmp.{both_ways}
-use mathlib.Core.Path.{fun_ext}
+use Rattle.std.proofs.Math.Path.{fun_ext}
 use Rattle.edits.specs.declared.edit.Edit.{Edit as Carried}
 use Rattle.edits.specs.Ids.{precedes}
 use Rattle.order.specs.Lists.{◌∈◌, here, there, with_at}
