@@ -10,7 +10,7 @@ use Rattle.order.specs.Lists.{◌∈◌, here, there, ◌∉◌, Before}
 use Rattle.order.specs.Forests.{Entry, entry_id}
 use Rattle.order.specs.Placing.{first, after}
 use Rattle.order.proofs.Ids.{compare, same_refl, same_apart, same_eq, eq_same}
-use Rattle.order.proofs.Lists.{before_right, Distinct}
+use Rattle.order.proofs.Lists.{before_right, Distinct, none_of}
 
 -- the first of a list
 pub first_in : (xs : List Id) {a : Id} → first xs ≡ Some a → a ∈ xs
@@ -91,7 +91,7 @@ module _ {E : Type 0} where
   beside_after a b e (x ∷ xs) d h = go (cases_Bool (same x.id b)) (beside_after a b e xs d.1)
     where
       not_x : a ∈ map entry_id xs → same x.id a ≡ false
-      not_x m = same_apart x.id a (λ p. d.0 (subst (λ (c : Id). c ∈ map entry_id xs) (sym p) m))
+      not_x = none_of x.id (map entry_id xs) d.0 a
 
       go : (same x.id b ≡ true) ⊎ (same x.id b ≡ false)
           → (after b (map entry_id xs) ≡ Some a → beside a Left e xs ≡ beside b Right e xs)

@@ -13,7 +13,7 @@ use Rattle.order.specs.Edits.{Change, insertion}
 use Rattle.order.specs.Forests.{Entry, Forest, nil, node, ids, change}
 use Rattle.order.specs.Placing.{first, after, is_node, has_right, has_right_child}
 use Rattle.order.proofs.Ids.{same_eq, eq_same}
-use Rattle.order.proofs.Lists.{in_left, in_right, in_split, in_nil, in_snoc, Distinct, distinct_across}
+use Rattle.order.proofs.Lists.{in_left, in_right, in_split, in_snoc, Distinct, distinct_across}
 use Rattle.order.proofs.Lists.{before_left, before_right, before_later, before_earlier, before_across, before_once}
 use Rattle.order.proofs.Nodes.{ids_node, Place, it, lefts, rights, nexts, place, placed, Apart, apart}
 use Rattle.order.proofs.Beside.{first_some, after_it}
@@ -149,7 +149,7 @@ module _ {E : Type 0} where
       mine = block s b F.kids
 
   found : (s : Side) (b : Id) (f : Forest E) → Distinct (ids f) → b ∈ ids f → Found s b f
-  found s b nil d m = absurd (in_nil m)
+  found s b nil d m = elim m [ ]
   found s b (node x l r n) d m = go (apart x l r n d) (place x l r n m) (found s b l) (found s b r) (found s b n)
     where
       own : (t : Side) → Apart x l r n → Found t x.id (node x l r n)
@@ -213,7 +213,7 @@ module _ {E : Type 0} where
   node_has (node x l r n) e = (x.id, placed x l r n (it refl))
 
   has_node : (f : Forest E) {a : Id} → a ∈ ids f → is_node f ≡ true
-  has_node nil m = absurd (in_nil m)
+  has_node nil m = elim m [ ]
   has_node (node x l r n) m = refl
 
   -- an entry has a right child where something is below it on the right

@@ -6,12 +6,11 @@ use Rattle.edits.specs.declared.id.Id.{Id}
 use Rattle.edits.specs.declared.edit.Side.{Side}
 use Rattle.edits.specs.declared.edit.Side.TheVariants.{Left, Right}
 use Rattle.edits.specs.declared.edit.Parent.TheVariants as parent
-use Rattle.edits.specs.Ids.{same}
 use Rattle.order.specs.Lists.{◌∈◌, here, there, ◌∉◌, keep}
 use Rattle.order.specs.Edits.{Change, insertion, deletion}
 use Rattle.order.specs.Forests.{Entry, Forest, nil, node, read, entry_id, ids, fresh, hide, join, adopt, hang, change}
 use Rattle.order.proofs.Ids.{same_apart, eq_same}
-use Rattle.order.proofs.Lists.{in_nil, is_in, is_in_true, of_is_in, Distinct}
+use Rattle.order.proofs.Lists.{is_in, is_in_true, of_is_in, none_of, Distinct}
 use Rattle.order.proofs.Nodes.{Place, it, lefts, rights, nexts, place, placed, Apart, apart, read_bury}
 
 -- ys is xs with e put in once
@@ -84,7 +83,7 @@ module _ {E : Type 0} (before : Id → Id → Bool) where
       (hang_absent p s e n (λ m. no-p (placed x l r n (nexts m))) i))
 
   hang_grew : (p : Id) (s : Side) (e : Entry E) (f : Forest E) → Distinct (ids f) → p ∈ ids f → Grew e (read f) (read (hang before p s e f))
-  hang_grew p s e nil d m = absurd (in_nil m)
+  hang_grew p s e nil d m = elim m [ ]
   hang_grew p s e (node x l r n) d m = go (place x l r n m)
       (hang_grew p s e l A.in_lefts) (hang_grew p s e r A.in_rights) (hang_grew p s e n A.in_nexts)
     where
@@ -98,9 +97,6 @@ module _ {E : Type 0} (before : Id → Id → Bool) where
       taken Left = grew_after (x ∷ (read r ++ read n)) (join_grew e l)
       taken Right = grew_before (read l) (grew_there x (grew_after (read n) (join_grew e r)))
 
-      other : (f : Forest E) → p ∈ ids f → x.id ∉ ids f → same x.id p ≡ false
-      other f k no-x = same_apart x.id p (λ q. no-x (subst (λ (a : Id). a ∈ ids f) (sym q) k))
-
       not_it : (f : Forest E) → p ≡ x.id → x.id ∉ ids f → p ∉ ids f
       not_it f q no-x k = no-x (subst (λ (a : Id). a ∈ ids f) q k)
 
@@ -111,11 +107,11 @@ module _ {E : Type 0} (before : Id → Id → Bool) where
         hang_absent p s e r (not_it r q A.it_rights),
         hang_absent p s e n (not_it n q A.it_nexts),
       ) (taken s)
-      go (lefts k) L R N = rw (other l k A.it_lefts, hang_absent p s e r (A.lefts_rights k), hang_absent p s e n (A.lefts_nexts k))
+      go (lefts k) L R N = rw (none_of x.id (ids l) A.it_lefts p k, hang_absent p s e r (A.lefts_rights k), hang_absent p s e n (A.lefts_nexts k))
           (grew_after (x ∷ (read r ++ read n)) (L k))
-      go (rights k) L R N = rw (other r k A.it_rights, hang_absent p s e l (λ m. A.lefts_rights m k), hang_absent p s e n (A.rights_nexts k))
+      go (rights k) L R N = rw (none_of x.id (ids r) A.it_rights p k, hang_absent p s e l (λ m. A.lefts_rights m k), hang_absent p s e n (A.rights_nexts k))
           (grew_before (read l) (grew_there x (grew_after (read n) (R k))))
-      go (nexts k) L R N = rw (other n k A.it_nexts, hang_absent p s e l (λ m. A.lefts_nexts m k), hang_absent p s e r (λ m. A.rights_nexts m k))
+      go (nexts k) L R N = rw (none_of x.id (ids n) A.it_nexts p k, hang_absent p s e l (λ m. A.lefts_nexts m k), hang_absent p s e r (λ m. A.rights_nexts m k))
           (grew_before (read l) (grew_there x (grew_before (read r) (N k))))
 
   pub effect : (a : Id) (c : Change E) (f : Forest E) → Distinct (ids f) → Effect a c (read f) (read (change before a c f))

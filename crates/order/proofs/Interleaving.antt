@@ -13,7 +13,7 @@ use Rattle.order.specs.Placing.{after, follower, has_right, has_right_child, hun
 use Rattle.order.specs.Histories.{edit_id, History, empty, more}
 use Rattle.order.specs.Systems.{Making, making_edit, edits_of, Reached}
 use Rattle.order.specs.Theorems.{Forward, Backward, InsertionsOf, TypedRun, Knew, Unbroken}
-use Rattle.order.proofs.Lists.{in_left, in_last, each_cons, sub_snoc, in_nil, in_map, of_map}
+use Rattle.order.proofs.Lists.{in_left, in_last, each_cons, sub_snoc, in_map, of_map}
 use Rattle.order.proofs.Histories.{tree_snoc, in_ids, covered_in, in_part, counted}
 use Rattle.order.proofs.Reordering.{rest_of, tree_from_part}
 use Rattle.order.proofs.Placing.{follower_in}
@@ -142,12 +142,12 @@ module _ {E : Type 0} {before : Id → Id → Bool} (O : Order before) {ms : Lis
       (λ a k. under_trans s s b m.edit.id a.edit.id whole (entries before F.all).distinct u (below a k))
 
   forward_under : (m : Making E) (run : List (Making E)) → InsertionsOf ms (m ∷ run) → Forward m run → AllUnder Right m.edit.id run
-  forward_under m [] made steps = λ a k. absurd (in_nil k)
+  forward_under m [] made steps = λ a k. elim k [ ]
   forward_under m (n ∷ run) made steps = let N = made n (there (here refl)) in
       one_more Right m.edit.id n run (under_left n N.0 N.1 m.edit.id steps.0) (forward_under n run (λ a k. made a (there k)) steps.1)
 
   backward_under : (m : Making E) (run : List (Making E)) → InsertionsOf ms (m ∷ run) → Backward m run → AllUnder Left m.edit.id run
-  backward_under m [] made steps = λ a k. absurd (in_nil k)
+  backward_under m [] made steps = λ a k. elim k [ ]
   backward_under m (n ∷ run) made steps = let M = made m (here refl) in let N = made n (there (here refl)) in
       one_more Left m.edit.id n run (under_next m n M.0 N.0 M.1 N.1 steps.0 steps.1)
       (backward_under n run (λ a k. made a (there k)) steps.2)

@@ -7,7 +7,7 @@ use Rattle.std.proofs.Math.Logic.{⊎_map}
 use Rattle.edits.specs.declared.id.Id.{Id}
 use Rattle.edits.specs.Ids.{same}
 use Rattle.order.specs.Lists.{◌∈◌, here, there, ◌∉◌, ◌⊆◌, keep, Before, with_at, any}
-use Rattle.order.proofs.Ids.{same_eq, same_refl}
+use Rattle.order.proofs.Ids.{same_apart, same_eq, same_refl}
 
 module _ {A : Type 0} where
   pub in_left : {x : A} (xs ys : List A) → x ∈ xs → x ∈ (xs ++ ys)
@@ -27,9 +27,6 @@ module _ {A : Type 0} where
   pub in_one : {x y : A} → x ∈ (y ∷ []) → x ≡ y
   in_one (here e) = e
   in_one (there m) = elim m [ ]
-
-  pub in_nil : {x : A} → x ∈ [] → ⊥
-  in_nil m = elim m [ ]
 
   -- one more at the end
   pub in_last : (xs : List A) (x : A) → x ∈ (xs ++ (x ∷ []))
@@ -204,6 +201,10 @@ module _ {A B : Type 0} (f : A → B) where
           → cond b (f x ∷ keep p (map f xs)) (keep p (map f xs)) ≡ map f (cond b (x ∷ keep (λ (y : A). p (f y)) xs) (keep (λ (y : A). p (f y)) xs))
       go true e = ap (λ (zs : List B). f x ∷ zs) e
       go false e = e
+
+-- what is not in a list is none of its elements
+pub none_of : (x : Id) (xs : List Id) → x ∉ xs → (a : Id) → a ∈ xs → same x a ≡ false
+none_of x xs no-x a m = same_apart x a (λ p. no-x (subst (λ (c : Id). c ∈ xs) (sym p) m))
 
 -- whether an identifier is in a list
 pub is_in : List Id → Id → Bool

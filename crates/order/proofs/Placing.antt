@@ -12,7 +12,7 @@ use Rattle.order.specs.Edits.{Change, insertion, deletion}
 use Rattle.order.specs.Forests.{Entry, Forest, read, is_shown, visible, entry_id, ids, fresh, hide, change}
 use Rattle.order.specs.Placing.{left_neighbour, follower, has_right_child, hung, insertion_after, insertion_at, deletion_at}
 use Rattle.order.proofs.Ids.{same_apart, same_refl}
-use Rattle.order.proofs.Lists.{in_getD, in_map, of_map, of_keep, Distinct}
+use Rattle.order.proofs.Lists.{in_getD, in_map, of_map, of_keep, none_of, Distinct}
 use Rattle.order.proofs.Nodes.{read_bury, hide_other}
 use Rattle.order.proofs.Beside.{first_in, after_in, beside, beside_absent}
 use Rattle.order.proofs.Hanging.{inserted_first, inserted_after}
@@ -84,12 +84,9 @@ module _ {E : Type 0} where
         S : List (Entry E)
         S = keep is_shown xs
 
-        other : (a : Id) → a ∈ map entry_id xs → same x.id a ≡ false
-        other a m = same_apart x.id a (λ p. d.0 (subst (λ (c : Id). c ∈ map entry_id xs) (sym p) m))
-
         passed : (b : Bool) → x.shown ≡ b → (j : ℕ) → j < length S → keep is_shown (g (at S j) xs) ≡ R j S
             → keep is_shown (g (at S j) (x ∷ xs)) ≡ cond b (x ∷ R j S) (R j S)
-        passed b t j l ih = ap (keep is_shown) (pass (at S j) x xs (other (at S j) (at_in xs j l))) ∙ (λ i. cond (t i) (x ∷ ih i) (ih i))
+        passed b t j l ih = ap (keep is_shown) (pass (at S j) x xs (none_of x.id (map entry_id xs) d.0 (at S j) (at_in xs j l))) ∙ (λ i. cond (t i) (x ∷ ih i) (ih i))
 
         go : (b : Bool) → x.shown ≡ b → (j : ℕ) → j < length (cond b (x ∷ S) S)
             → ((m : ℕ) → m < length S → keep is_shown (g (at S m) xs) ≡ R m S)

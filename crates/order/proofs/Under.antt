@@ -11,7 +11,6 @@ use Rattle.order.specs.Lists.{◌∈◌}
 use Rattle.order.specs.Edits.{Change, insertion, deletion}
 use Rattle.order.specs.Forests.{Entry, Forest, nil, node, entry_id, ids, fresh, hide, bury, join, adopt, hang, change}
 use Rattle.order.proofs.Ids.{same_eq, same_refl}
-use Rattle.order.proofs.Lists.{in_nil}
 use Rattle.order.proofs.Nodes.{Place, it, lefts, rights, nexts, place, placed}
 use Rattle.order.proofs.Growing.{in_grew, of_grew, grew_map, join_grew}
 
@@ -87,7 +86,7 @@ module _ {E : Type 0} where
 
   module _ (before : Id → Id → Bool) where
     grows_join : (e : Entry E) (f : Forest E) → Grows f (join before e f)
-    grows_join e nil = record { inside = λ a i. absurd (in_nil i); below = λ s b a u. absurd u }
+    grows_join e nil = record { inside = λ a i. elim i [ ]; below = λ s b a u. absurd u }
     grows_join e (node x l r n) = go (before e.id x.id) (grows_join e n)
       where
         go : (w : Bool) → Grows n (join before e n) → Grows (node x l r n) (cond w (node e nil nil (node x l r n)) (node x l r (join before e n)))
@@ -125,7 +124,7 @@ module _ {E : Type 0} where
 
     -- the leaf is below its parent
     hang_new : (p : Id) (t : Side) (e : Entry E) (f : Forest E) → p ∈ ids f → Under t p (hang before p t e f) e.id
-    hang_new p t e nil m = absurd (in_nil m)
+    hang_new p t e nil m = elim m [ ]
     hang_new p t e (node x l r n) m = go (hang before p t e l) (hang before p t e r) (hang before p t e n) (place x l r n m)
         (hang_new p t e l) (hang_new p t e r) (hang_new p t e n)
       where
@@ -217,8 +216,8 @@ module _ {E : Type 0} where
 
   -- a leaf has nothing below it
   leaf_below : (e : Entry E) (s : Side) (b a : Id) (g : Forest E) → Under s b (node e nil nil g) a → Under s b g a
-  leaf_below e Left b a g (inl u) = absurd (in_nil u.1)
-  leaf_below e Right b a g (inl u) = absurd (in_nil u.1)
+  leaf_below e Left b a g (inl u) = elim u.1 [ ]
+  leaf_below e Right b a g (inl u) = elim u.1 [ ]
   leaf_below e s b a g (inr (inl u)) = absurd u
   leaf_below e s b a g (inr (inr (inl u))) = absurd u
   leaf_below e s b a g (inr (inr (inr u))) = u

@@ -10,7 +10,7 @@ use Rattle.order.specs.Forests.{Forest, visible, apply, tree}
 use Rattle.order.specs.Histories.{edit_ids, count, History, empty, more}
 use Rattle.order.specs.Systems.{Making, insertion_made, deletion_made}
 use Rattle.order.specs.Theorems.{PutAt, HiddenAt}
-use Rattle.order.proofs.Lists.{in_left, in_last, each_snoc, in_nil}
+use Rattle.order.proofs.Lists.{in_left, in_last, each_snoc}
 use Rattle.order.proofs.Histories.{tree_snoc, in_ids, of_ids, count_own, count_other}
 use Rattle.order.proofs.Making.{inserts_at, deletes_at}
 use Rattle.runs.specs.Replicas.{Editor, Replica, new, own_roster, own, own_waits, used_up, next_id, full, no_insert, no_delete, own_insertion, own_deletion, edited, commit, insert, delete}
@@ -60,7 +60,7 @@ total_length (more {h} e H l n) ed = let o = ed e (in_last h e) in let k = lengt
 module _ {E : Type 0} where
   -- an edit of a history is applied wherever the whole history was accepted
   pub history_applied : {log : List (Edit E)} → History log → (acc : List (Edit E)) → log ⊆ acc → (e : Edit E) → e ∈ log → Applied acc e
-  history_applied empty acc sub = λ e m. absurd (in_nil m)
+  history_applied empty acc sub = λ e m. elim m [ ]
   history_applied (more {h} d H l n) acc sub = let old : (e : Edit E) → e ∈ h → Applied acc e = history_applied H acc (λ c k. sub c (in_left h (d ∷ []) k)) in
       each_snoc (Applied acc) h d old
       (applies d (sub d (in_last h d)) (λ a c. (of_ids h (n.covered a c)).0) (λ a c. (of_ids h (n.covered a c)).2) (λ a c. old _ (of_ids h (n.covered a c)).1))

@@ -30,11 +30,7 @@ slot_left r e t le = go (inserts e) t
     go false u = omega (arith, le)
 
 pub own_is : {E : Type 0} (r : Replica E) (i : ℕ) → r.editor ≡ Some i → own r ≡ i
-own_is r i owner = ap own_of owner
-  where
-    own_of : Option ℕ → ℕ
-    own_of None = 0
-    own_of (Some j) = j
+own_is r i owner = rw owner refl
 
 module _ {E : Type 0} (before : Id → Id → Bool) where
   pub settles : (e : Edit E) (r : Replica E) → Settled (settled before e r)

@@ -14,7 +14,7 @@ use Rattle.edits.specs.declared.edit.Stamp.{Stamp}
 use Rattle.edits.specs.declared.edit.Edit.{Edit as Carried}
 use Rattle.edits.specs.declared.edit.Edit.TheVariants.{Insertion, Deletion}
 use Rattle.order.specs.Lists.{◌∈◌, here}
-use Rattle.order.proofs.Lists.{in_nil, each_cons}
+use Rattle.order.proofs.Lists.{each_cons}
 use Rattle.edits.specs.Clocks.{pairs_of}
 use Rattle.edits.specs.Rules.{parent_kept, covers}
 use Rattle.runs.specs.Channels.{Bytes, AllFit, KeepsLaw, Packed}
@@ -92,7 +92,7 @@ some_numbers (Deletion d) = omega arith
 -- WHAT A RECORD HOLDS
 
 small_bytes : (r : Bytes) → list_all (λ n. leb n 255) r ≡ true → (b : ℕ) → b ∈ r → b ≤ 255
-small_bytes [] t = λ b m. absurd (in_nil m)
+small_bytes [] t = λ b m. elim m [ ]
 small_bytes (n ∷ r) t = let both = and_parts (leb n 255) (list_all (λ n. leb n 255) r) t in
     each_cons (λ (b : ℕ). b ≤ 255) n r (leb-true n 255 both.0) (small_bytes r both.1)
 

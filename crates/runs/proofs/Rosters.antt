@@ -6,7 +6,7 @@ use Rattle.edits.specs.declared.fault.Fault.{Fault}
 use Rattle.order.specs.Lists.{◌∈◌, here, there}
 use Rattle.order.specs.Edits.{Edit}
 use Rattle.order.specs.Systems.{Making, edits_of}
-use Rattle.order.proofs.Lists.{any_true, in_left, in_last, each_snoc, in_nil}
+use Rattle.order.proofs.Lists.{any_true, in_left, in_last, each_snoc}
 use Rattle.runs.specs.Replicas.{Replica, new, placed, with_shelf, listed, enrolled, Verdict, knows, refuses, applies, shelves, Answer, known, refused, taken, verdict, applied, release, judge, take_in, commit, after_one, take_all}
 use Rattle.runs.specs.Worlds.{made_by}
 use Rattle.runs.specs.Promises.{Rostered, accepted_by}
@@ -80,11 +80,8 @@ module _ {E : Type 0} where
   same_rostered r acc R = subst (λ (l : List (Edit E)). Rostered r l) (sym (append-nil acc)) R
 
   pub new_rostered : (editor : Option ℕ) (slots room : ℕ) → Rostered {E = E} (new editor slots room) []
-  new_rostered None slots room i = ((λ m. elim m [ ]), λ u. elim u [ inl p ↦ cc | inr v ↦ absurd (in_nil v.1) ])
-  new_rostered (Some j) slots room i = ((λ m. elim m [ here p ↦ inl (ap Some (sym p)) | there n ↦ absurd (in_nil n) ]), λ u. elim u [ inl p ↦ here (number i j p) | inr v ↦ absurd (in_nil v.1) ])
-    where
-      number : (i j : ℕ) → Some j ≡ Some i → i ≡ j
-      number i j p = cc
+  new_rostered None slots room i = ((λ m. elim m [ ]), λ u. elim u [ inl p ↦ cc | inr v ↦ elim v.1 [ ] ])
+  new_rostered (Some j) slots room i = ((λ m. elim m [ here p ↦ inl (ap Some (sym p)) | there n ↦ elim n [ ] ]), λ u. elim u [ inl p ↦ here (cc) | inr v ↦ elim v.1 [ ] ])
 
   module _ (before : Id → Id → Bool) where
     -- nobody joins by what is released

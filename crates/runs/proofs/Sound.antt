@@ -12,7 +12,7 @@ use Rattle.order.specs.Edits.{Clock, Change, insertion, deletion, Edit, Covers, 
 use Rattle.order.specs.Forests.{Entry, Forest, read, ids, hide, apply, tree}
 use Rattle.order.specs.Histories.{edit_ids, count, Next, History, more}
 use Rattle.order.proofs.Ids.{eq_same}
-use Rattle.order.proofs.Lists.{any_false, in_left, in_last, each_snoc, sub_snoc, Distinct, in_nil}
+use Rattle.order.proofs.Lists.{any_false, in_left, in_last, each_snoc, sub_snoc, Distinct}
 use Rattle.order.proofs.Growing.{Effect, grew_length, effect}
 use Rattle.order.proofs.Histories.{tree_snoc, in_ids, of_ids, ids_snoc, count_own, count_other, counted, next_number}
 use Rattle.order.proofs.Entries.{entries}
@@ -197,7 +197,7 @@ module _ {E : Type 0} where
 
   -- after as many releases as there are waiting edits none is ready
   pub release_settles : (before : Id → Id → Bool) (n : ℕ) (r : Replica E) → length r.shelf ≤ n → Settled (release before n r)
-  release_settles before zero r le = λ e m. absurd (in_nil (subst (λ (l : List (Edit E)). e ∈ l) (nil_from_length r.shelf (omega (arith, le))) m))
+  release_settles before zero r le = λ e m. elim (subst (λ (l : List (Edit E)). e ∈ l) (nil_from_length r.shelf (omega (arith, le))) m) [ ]
   release_settles before (suc n) r le = go (pick (ready r) r.shelf) (picks (ready r) r.shelf) (release_settles before n)
     where
       go : (k : Pick E) → Picks (ready r) r.shelf k → ((r' : Replica E) → length r'.shelf ≤ n → Settled (release before n r')) → Settled (go_on before k r (release before n))
