@@ -35,7 +35,7 @@ module _ {E : Type 0} where
 
   -- an edit does not cover itself
   pub not_own : (e : Edit E) → Lawful e → Covers e.clock e.id → ⊥
-  not_own e l c = let own = l.own in let le = c.1 in omega (arith, own, le)
+  not_own e l c = let own = l.own in let le = c.1 in omega arith
 
   pub lawful_in : {h : List (Edit E)} → History h → (d : Edit E) → d ∈ h → Lawful d
   lawful_in empty = λ d m. elim m [ ]
@@ -68,20 +68,20 @@ module _ {E : Type 0} where
   -- counting
   count_append : (h k : List (Edit E)) (editor : ℕ) → count (h ++ k) editor ≡ count h editor + count k editor
   count_append [] k editor = omega arith
-  count_append (e ∷ h) k editor = let ih = count_append h k editor in omega (arith, ih)
+  count_append (e ∷ h) k editor = let ih = count_append h k editor in omega arith
 
   pub count_own : (h : List (Edit E)) (e : Edit E) → count (h ++ (e ∷ [])) e.id.editor ≡ suc (count h e.id.editor)
   count_own h e = let s = count_append h (e ∷ []) e.id.editor in
       let one : count (e ∷ []) e.id.editor ≡ 1 = rw (eq-eqb e.id.editor e.id.editor refl) (omega arith) in
-      omega (arith, s, one)
+      omega arith
 
   pub count_other : (h : List (Edit E)) (e : Edit E) (editor : ℕ) → (e.id.editor ≡ editor → ⊥) → count (h ++ (e ∷ [])) editor ≡ count h editor
   count_other h e editor ne = let s = count_append h (e ∷ []) editor in
       let none : count (e ∷ []) editor ≡ 0 = rw (ne_eqb e.id.editor editor ne) (omega arith) in
-      omega (arith, s, none)
+      omega arith
 
   pub count_grows : (h : List (Edit E)) (e : Edit E) (editor : ℕ) → count h editor ≤ count (h ++ (e ∷ [])) editor
-  count_grows h e editor = let s = count_append h (e ∷ []) editor in omega (arith, s)
+  count_grows h e editor = let s = count_append h (e ∷ []) editor in omega arith
 
   -- the edits of each editor in a history are numbered from 1 to their count
   pub record Counted (h : List (Edit E)) : Type 0 where
@@ -93,7 +93,7 @@ module _ {E : Type 0} where
     where
       last : (c : ℕ) → e.clock e.id.editor ≡ c → c ≤ count h e.id.editor
       last zero p = omega arith
-      last (suc c) p = let a : Id = record { editor = e.id.editor; number = suc c } in (C.within a (n.covered a (omega (arith, p)))).1
+      last (suc c) p = let a : Id = record { editor = e.id.editor; number = suc c } in (C.within a (n.covered a (omega arith))).1
 
       low : e.clock e.id.editor ≤ count h e.id.editor
       low = last (e.clock e.id.editor) refl
@@ -101,15 +101,15 @@ module _ {E : Type 0} where
       go : suc (e.clock e.id.editor) ≡ e.id.number
           → (leb e.id.number (count h e.id.editor) ≡ true) ⊎ (leb e.id.number (count h e.id.editor) ≡ false)
           → e.id.number ≡ suc (count h e.id.editor)
-      go own (inl t) = absurd (n.new (C.full e.id (omega (arith, own), leb-true e.id.number (count h e.id.editor) t)))
-      go own (inr t) = let gt = leb-false e.id.number (count h e.id.editor) t in omega (arith, own, gt, low)
+      go own (inl t) = absurd (n.new (C.full e.id (omega arith, leb-true e.id.number (count h e.id.editor) t)))
+      go own (inr t) = let gt = leb-false e.id.number (count h e.id.editor) t in omega (arith, low)
 
   counted_more : {h : List (Edit E)} → Counted h → (e : Edit E) → e.id.number ≡ suc (count h e.id.editor) → Counted (h ++ (e ∷ []))
   counted_more {h} C e num = record { within = λ a m. low a (ids_snoc h e m); full = λ a c. high a c (cases_Bool (eqb e.id.editor a.editor)) }
     where
       low : (a : Id) → (a ∈ edit_ids h) ⊎ (a ≡ e.id) → Covers (count (h ++ (e ∷ []))) a
-      low a (inl m) = let c = C.within a m in let g = count_grows h e a.editor in omega (arith, c.0, c.1, g)
-      low a (inr p) = subst (Covers (count (h ++ (e ∷ [])))) (sym p) (let o = count_own h e in omega (arith, o, num))
+      low a (inl m) = let c = C.within a m in let g = count_grows h e a.editor in omega arith
+      low a (inr p) = subst (Covers (count (h ++ (e ∷ [])))) (sym p) (let o = count_own h e in omega arith)
 
       last : (a : Id) → Covers (count (h ++ (e ∷ []))) a → e.id.editor ≡ a.editor
           → (leb a.number (count h a.editor) ≡ true) ⊎ (leb a.number (count h a.editor) ≡ false) → a ∈ edit_ids (h ++ (e ∷ []))
@@ -122,7 +122,7 @@ module _ {E : Type 0} where
               let c₁ : count (h ++ (e ∷ [])) e.id.editor ≡ count (h ++ (e ∷ [])) a.editor = ap (count (h ++ (e ∷ []))) p in
               let c₂ : count h e.id.editor ≡ count h a.editor = ap (count h) p in
               let le = c.1 in
-              omega (arith, gt, o, c₁, c₂, le, num)
+              omega arith
 
       high : (a : Id) → Covers (count (h ++ (e ∷ []))) a → (eqb e.id.editor a.editor ≡ true) ⊎ (eqb e.id.editor a.editor ≡ false)
           → a ∈ edit_ids (h ++ (e ∷ []))
@@ -142,4 +142,4 @@ module _ {E : Type 0} where
     where
       go : (c : ℕ) → count h editor ≡ c → c ≤ count k editor
       go zero p = omega arith
-      go (suc c) p = let a : Id = record { editor = editor; number = suc c } in (D.within a (sub a (C.full a (omega (arith, p))))).1
+      go (suc c) p = let a : Id = record { editor = editor; number = suc c } in (D.within a (sub a (C.full a (omega arith)))).1

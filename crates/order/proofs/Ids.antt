@@ -40,7 +40,7 @@ precedes_less a b e = go (cases_Bool (eqb a.editor b.editor))
 
 less_precedes : (a b : Id) → Less a b → precedes a b ≡ true
 unfolding Less
-less_precedes a b (inl h) = rw (ne_eqb a.editor b.editor (λ p. omega (arith, p))) (lt-ltb a.editor b.editor h)
+less_precedes a b (inl h) = rw (ne_eqb a.editor b.editor (λ p. omega arith)) (lt-ltb a.editor b.editor h)
 less_precedes a b (inr h) = rw (h.0, eq-eqb b.editor b.editor refl) (lt-ltb a.number b.number h.1)
 
 pub by_editor_then_number : Order precedes

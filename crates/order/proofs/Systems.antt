@@ -77,7 +77,7 @@ module _ {E : Type 0} {before : Id → Id → Bool} where
     pub has_own : (i : ℕ) (a : Id) → a.editor ≡ i → a ∈ edit_ids (edits_of ms) → a ∈ edit_ids (hs i)
     has_own i a p m = let c = (counted F.all).within a m in
         let same : count (hs i) a.editor ≡ count (edits_of ms) a.editor = subst (λ (j : ℕ). count (hs i) j ≡ count (edits_of ms) j) (sym p) (F.own i) in
-        (counted (F.each i)).full a (c.0, omega (arith, c.1, same))
+        (counted (F.each i)).full a (c.0, omega arith)
 
     -- one more edit is made at the replica i, by the rules
     made_one : (i : ℕ) (m : Making E) (c : Change E) → m.edit ≡ new_edit i (hs i) c → Made before (edits_of ms) m
@@ -106,7 +106,7 @@ module _ {E : Type 0} {before : Id → Id → Bool} where
 
         next_all : Next (edits_of ms) e
         next_all = record {
-          new = λ k. let le = ((counted F.all).within e.id k).1 in omega (arith, le, number);
+          new = λ k. let le = ((counted F.all).within e.id k).1 in omega (arith, number);
           covered = λ a v. ids_sub M.known (edits_of ms) M.part a (M.next.covered a v);
         }
 
@@ -181,13 +181,13 @@ module _ {E : Type 0} {before : Id → Id → Bool} where
 
     counts_edits : (i j : ℕ) → SameCounts (hs i) (hs j) → hs i ⊆ hs j
     counts_edits i j alike e m = let c = (counted (F.each i)).within e.id (in_ids (hs i) m) in let same = alike e.id.editor in
-        in_part F.all (F.part j) e (F.part i e m) ((counted (F.each j)).full e.id (c.0, omega (arith, c.1, same)))
+        in_part F.all (F.part j) e (F.part i e m) ((counted (F.each j)).full e.id (c.0, omega arith))
 
     edits_counts : (i j : ℕ) → SameEdits (hs i) (hs j) → SameCounts (hs i) (hs j)
     edits_counts i j alike editor =
         let a = count_part (counted (F.each i)) (counted (F.each j)) (ids_sub (hs i) (hs j) (λ e. (alike e).0)) editor in
         let b = count_part (counted (F.each j)) (counted (F.each i)) (ids_sub (hs j) (hs i) (λ e. (alike e).1)) editor in
-        omega (arith, a, b)
+        omega arith
 
     pub agreement : Order before → (i j : ℕ) → (SameCounts (hs i) (hs j) ↔ SameEdits (hs i) (hs j))
         × (SameEdits (hs i) (hs j) → visible (tree before (hs i)) ≡ visible (tree before (hs j)))

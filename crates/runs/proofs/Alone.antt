@@ -24,10 +24,10 @@ use Rattle.runs.proofs.Rosters.{new_rostered, takes_rostered, commit_rostered}
 total_same : {E : Type 0} (n : ℕ) (h : List (Edit E)) (e : Edit E) → n < e.id.editor → total n (count (h ++ (e ∷ []))) ≡ total n (count h)
 unfolding total
 total_same zero h e l = refl
-total_same (suc n) h e l = let ih = total_same n h e (omega arith) in let o = count_other h e (suc n) (λ p. apart p) in omega (arith, ih, o)
+total_same (suc n) h e l = let ih = total_same n h e (omega arith) in let o = count_other h e (suc n) (λ p. apart p) in omega arith
   where
     apart : e.id.editor ≡ suc n → ⊥
-    apart p = omega (arith, p, l)
+    apart p = omega arith
 
 total_more : {E : Type 0} (n : ℕ) (h : List (Edit E)) (e : Edit E) → 1 ≤ e.id.editor → e.id.editor ≤ n → total n (count (h ++ (e ∷ []))) ≡ suc (total n (count h))
 unfolding total
@@ -39,23 +39,23 @@ total_more (suc n) h e l u = go (cases_Bool (eqb e.id.editor (suc n))) (total_mo
         → count (h ++ (e ∷ [])) (suc n) + total n (count (h ++ (e ∷ []))) ≡ suc (count h (suc n) + total n (count h))
     go (inl t) ih = let p = eqb-true e.id.editor (suc n) t in
         let o : count (h ++ (e ∷ [])) (suc n) ≡ suc (count h (suc n)) = subst (λ (j : ℕ). count (h ++ (e ∷ [])) j ≡ suc (count h j)) p (count_own h e) in
-        let s = total_same n h e (omega (arith, p)) in
-        omega (arith, o, s)
+        let s = total_same n h e (omega arith) in
+        omega arith
     go (inr t) ih = let ne = eqb-false e.id.editor (suc n) t in
         let o = count_other h e (suc n) ne in
-        let i = ih (omega (arith, ne, u)) in
-        omega (arith, o, i)
+        let i = ih (omega arith) in
+        omega arith
 
 total_none : (n : ℕ) → total n (λ i. 0) ≡ 0
 unfolding total
 total_none zero = refl
-total_none (suc n) = let ih = total_none n in omega (arith, ih)
+total_none (suc n) = let ih = total_none n in omega arith
 
 -- a clock adds up to the number of edits that it counts
 total_length : {E : Type 0} {h : List (Edit E)} → History h → ((e : Edit E) → e ∈ h → Editor e.id.editor) → total 255 (count h) ≡ length h
 total_length empty ed = total_none 255
 total_length (more {h} e H l n) ed = let o = ed e (in_last h e) in let k = length-append h (e ∷ []) in
-    let a = total_more 255 h e o.0 o.1 in let ih = total_length H (λ d m. ed d (in_left h (e ∷ []) m)) in omega (arith, a, ih, k)
+    let a = total_more 255 h e o.0 o.1 in let ih = total_length H (λ d m. ed d (in_left h (e ∷ []) m)) in omega arith
 
 module _ {E : Type 0} where
   -- an edit of a history is applied wherever the whole history was accepted

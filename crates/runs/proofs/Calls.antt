@@ -26,8 +26,8 @@ slot_left : {E : Type 0} (r : Replica E) (e : Edit E) → (inserts e && full r) 
 slot_left r e t le = go (inserts e) t
   where
     go : (b : Bool) → (b && full r) ≡ false → length (read r.forest) + (one_if b + length (keep inserts r.shelf)) ≤ r.slots
-    go true u = let gt = leb-false r.slots (length (read r.forest) + length (keep inserts r.shelf)) u in omega (arith, gt)
-    go false u = omega (arith, le)
+    go true u = let gt = leb-false r.slots (length (read r.forest) + length (keep inserts r.shelf)) u in omega arith
+    go false u = omega arith
 
 pub own_is : {E : Type 0} (r : Replica E) (i : ℕ) → r.editor ≡ Some i → own r ≡ i
 own_is r i owner = rw owner refl
@@ -40,7 +40,7 @@ module _ {E : Type 0} (before : Id → Id → Bool) where
   growth : {r : Replica E} {acc log : List (Edit E)} (e : Edit E) → Sound before r acc log → (A : After before (log ++ (e ∷ [])) (settled before e r) (acc ++ (e ∷ [])))
       → length A.now ≡ length log + applied_with before e r
   growth {r} {acc} e S A = let z = S.sizes in let z' = A.sound.sizes in let l = length-append acc (e ∷ []) in
-      let le = release_fewer before (length r.shelf) (applied before e r) in omega (arith, z, z', l, le)
+      let le = release_fewer before (length r.shelf) (applied before e r) in omega arith
 
   pub record Takes (r : Replica E) (acc log : List (Edit E)) (e : Edit E) (p : Replica E × Answer) : Type 0 where
     pub after : After before log p.0 (acc ++ accepted_by p.1 e)
@@ -67,7 +67,7 @@ module _ {E : Type 0} {before : Id → Id → Bool} where
     where
       few : (b : Bool) → (not b && leb most_editors (length r.roster)) ≡ false → length (cond b r.roster (placed e.id.editor r.roster)) ≤ most_editors
       few true u = S.editors
-      few false u = let lt = leb-false most_editors (length r.roster) u in let l = placed_length e.id.editor r.roster in omega (arith, lt, l)
+      few false u = let lt = leb-false most_editors (length r.roster) u in let l = placed_length e.id.editor r.roster in omega arith
 
   -- a new edit is applied, and then what waited for it
   settle : {r : Replica E} {acc log : List (Edit E)} → Sound before r acc log → (e : Edit E) → SoundEdit e → Next log e → e.id ∉ edit_ids r.shelf
@@ -87,9 +87,9 @@ module _ {E : Type 0} {before : Id → Id → Bool} where
     waiting = each_snoc (λ (d : Edit E). SoundEdit d × (d.id ∉ edit_ids log)) r.shelf e S.waiting (s, new);
     apart = distinct_ids_snoc r.shelf e S.apart out;
     accepted = λ d. (there_now d, back d);
-    sizes = let l = length-append r.shelf (e ∷ []) in let k = length-append acc (e ∷ []) in let z = S.sizes in omega (arith, l, k, z);
-    slots = let q : length (keep inserts (r.shelf ++ (e ∷ []))) ≡ length (keep inserts r.shelf) + one_if (inserts e) = kept in omega (arith, q, slot);
-    room = let lt = leb-false r.room (length r.shelf) room in let l = length-append r.shelf (e ∷ []) in omega (arith, lt, l);
+    sizes = let l = length-append r.shelf (e ∷ []) in let k = length-append acc (e ∷ []) in let z = S.sizes in omega arith;
+    slots = let q : length (keep inserts (r.shelf ++ (e ∷ []))) ≡ length (keep inserts r.shelf) + one_if (inserts e) = kept in omega arith;
+    room = let lt = leb-false r.room (length r.shelf) room in let l = length-append r.shelf (e ∷ []) in omega arith;
     editors = S.editors;
   }
     where
@@ -97,7 +97,7 @@ module _ {E : Type 0} {before : Id → Id → Bool} where
       kept = let a : length (keep inserts (r.shelf ++ (e ∷ []))) ≡ length (keep inserts r.shelf ++ keep inserts (e ∷ [])) = ap length (keep_append inserts r.shelf (e ∷ [])) in
           let b = length-append (keep inserts r.shelf) (keep inserts (e ∷ [])) in
           let c = keep_length e [] in
-          omega (arith, a, b, c)
+          omega arith
 
       there_now : (d : Edit E) → d ∈ (acc ++ (e ∷ [])) → (d ∈ log) ⊎ (d ∈ (r.shelf ++ (e ∷ [])))
       there_now = each_snoc (λ (d : Edit E). (d ∈ log) ⊎ (d ∈ (r.shelf ++ (e ∷ [])))) acc e
@@ -139,7 +139,7 @@ module _ {E : Type 0} {before : Id → Id → Bool} where
     by_verdict shelves j = record {
       after = record { now = log; onward = stays; sound = shelve (enrol S e j.1) e s N.0 N.1 (slot_left r e j.2 S.slots) j.4 };
       settled = each_snoc (λ (d : Edit E). ready r d ≡ false) r.shelf e rest j.3;
-      grows = λ n q. let z : 0 ≡ n = cc in omega (arith, z);
+      grows = λ n q. let z : 0 ≡ n = cc in omega arith;
     }
       where
         N : (e.id ∉ edit_ids log) × (e.id ∉ edit_ids r.shelf)
@@ -171,7 +171,7 @@ module _ {E : Type 0} {before : Id → Id → Bool} where
     own_sound c l = record {
       lawful = l;
       maker = ed;
-      counts = λ j one. let a : Id = record { editor = j; number = 1 } in let u = of_ids log ((counted S.history).full a (omega (arith, one))) in
+      counts = λ j one. let a : Id = record { editor = j; number = 1 } in let u = of_ids log ((counted S.history).full a (omega arith)) in
           subst Editor (ap (λ (b : Id). b.editor) u.2) (S.makers u.0 u.1);
     }
 

@@ -151,7 +151,7 @@ edit_one r = number_one r edit_by by
 pub numbers_lawful : KeepsLaw numbers
 numbers_lawful = record {
   packing = packing;
-  reading = λ r xs q. let one : length xs ≡ 1 = subst One q (edit_one r) in (omega (arith, one), omega (arith, one));
+  reading = λ r xs q. let one : length xs ≡ 1 = subst One q (edit_one r) in (omega arith, omega arith);
 }
   where
     packing : (xs : List (Carried ℕ)) → 1 ≤ length xs → AllFit numbers xs → Packed get_edit xs (put_first xs).0 (put_first xs).1

@@ -105,7 +105,7 @@ module _ {E X : Type 0} {before : Id → Id → Bool} (O : Order before) (meanin
       let p : d.clock i ≡ count M.known i = ap (λ (e : Edit E). e.clock i) (sym u.2) ∙ ap (λ (f : Clock). f i) M.clock in
       let q = F.own i in
       let c = clock_at i i in
-      omega (arith, le, p, q, c)
+      omega arith
 
   -- no edit that waits has waited for an edit that is made just now
   nothing_waited : (i : ℕ) (e : Edit E) → e.id.editor ≡ i → Settled (applied before e (w.replicas i))

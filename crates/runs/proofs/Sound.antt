@@ -36,10 +36,10 @@ module _ {E : Type 0} where
 
   -- a change puts in one entry at most
   effect_length : (a : Id) (c : Change E) (xs ys : List (Entry E)) → Effect a c xs ys → length ys ≤ length xs + one_if (is_insertion c)
-  effect_length a (insertion parent.Start s x) xs ys g = let l = grew_length g in omega (arith, l)
-  effect_length a (insertion (parent.Entry p) s x) xs ys (inl u) = let l : length ys ≡ length xs = ap length u.0 in omega (arith, l)
-  effect_length a (insertion (parent.Entry p) s x) xs ys (inr u) = let l = grew_length u.0 in omega (arith, l)
-  effect_length a (deletion t) xs ys u = let l : length ys ≡ length xs = ap length u ∙ length-map xs (hide t) in omega (arith, l)
+  effect_length a (insertion parent.Start s x) xs ys g = let l = grew_length g in omega arith
+  effect_length a (insertion (parent.Entry p) s x) xs ys (inl u) = let l : length ys ≡ length xs = ap length u.0 in omega arith
+  effect_length a (insertion (parent.Entry p) s x) xs ys (inr u) = let l = grew_length u.0 in omega arith
+  effect_length a (deletion t) xs ys u = let l : length ys ≡ length xs = ap length u ∙ length-map xs (hide t) in omega arith
 
   -- what the replica r holds that has accepted acc, and has applied log in this order
   pub record Sound (before : Id → Id → Bool) (r : Replica E) (acc log : List (Edit E)) : Type 0 where
@@ -68,21 +68,21 @@ module _ {E : Type 0} where
     ready_next e s new t = record { new = new; covered = λ a c. (counted S.history).full a (c.0, below a c) }
       where
         below : (a : Id) → Covers e.clock a → a.number ≤ count log a.editor
-        below a c = let lo = c.0 in let hi = c.1 in let ed = s.counts a.editor (omega (arith, lo, hi)) in
+        below a c = let lo = c.0 in let hi = c.1 in let ed = s.counts a.editor (omega arith) in
             let le = within_each 255 e.clock r.clock t a.editor ed.0 ed.1 in
             let q = count_clock a.editor in
-            omega (arith, hi, le, q)
+            omega arith
 
     -- an edit is ready when everything that it covers is applied
     pub covered_ready : (e : Edit E) → ((a : Id) → Covers e.clock a → a ∈ edit_ids log) → ready r e ≡ true
     covered_ready e all = each_within 255 e.clock r.clock (λ i l u. go i (e.clock i) refl)
       where
         go : (i n : ℕ) → e.clock i ≡ n → e.clock i ≤ r.clock i
-        go i zero p = omega (arith, p)
+        go i zero p = omega arith
         go i (suc n) p = let a : Id = record { editor = i; number = suc n } in
-            let c = ((counted S.history).within a (all a (omega (arith, p)))).1 in
+            let c = ((counted S.history).within a (all a (omega arith))).1 in
             let q = count_clock i in
-            omega (arith, p, c, q)
+            omega arith
 
     -- an edit that is not known is neither applied nor waiting
     pub unknown_new : (e : Edit E) → is_known r e.id ≡ false → (e.id ∉ edit_ids log) × (e.id ∉ edit_ids r.shelf)
@@ -93,7 +93,7 @@ module _ {E : Type 0} where
 
         not_applied : Covers (count log) e.id → ⊥
         not_applied c = let gt = leb-false e.id.number (r.clock e.id.editor) both.0 in
-            let q = count_clock e.id.editor in let le = c.1 in omega (arith, gt, q, le)
+            let q = count_clock e.id.editor in let le = c.1 in omega arith
 
         not_waiting : (d : Edit E) × (d ∈ r.shelf) × (d.id ≡ e.id) → ⊥
         not_waiting u = both_ways _ (any_false (λ (d : Edit E). same d.id e.id) r.shelf both.1 u.0 u.1) (eq_same u.0.id e.id u.2)
@@ -113,8 +113,8 @@ module _ {E : Type 0} where
       waiting = λ d m. ((S.waiting d (sub d m)).0, λ k. not_there d m (ids_snoc log e k));
       apart = apart;
       accepted = same-acc;
-      sizes = let l = length-append log (e ∷ []) in omega (arith, l, sizes);
-      slots = let l = effect_length e.id e.change (read r.forest) (read (apply before e r.forest)) grown in omega (arith, l, slot);
+      sizes = let l = length-append log (e ∷ []) in omega arith;
+      slots = let l = effect_length e.id e.change (read r.forest) (read (apply before e r.forest)) grown in omega arith;
       room = few;
       editors = S.editors;
     }
@@ -135,7 +135,7 @@ module _ {E : Type 0} where
         → length (read r.forest) + (one_if (inserts e) + length (keep inserts r.shelf)) ≤ r.slots
         → Sound before (applied before e r) (acc ++ (e ∷ [])) (log ++ (e ∷ []))
     apply_new e s n out slot = apply_one e r.shelf (acc ++ (e ∷ [])) s n (λ d m. m) S.apart out (λ d. (there_now d, back d))
-        (let l = length-append acc (e ∷ []) in let z = S.sizes in omega (arith, l, z)) slot S.room
+        (let l = length-append acc (e ∷ []) in let z = S.sizes in omega arith) slot S.room
       where
         there_now : (d : Edit E) → d ∈ (acc ++ (e ∷ [])) → (d ∈ (log ++ (e ∷ []))) ⊎ (d ∈ r.shelf)
         there_now = each_snoc (λ (d : Edit E). (d ∈ (log ++ (e ∷ []))) ⊎ (d ∈ r.shelf)) acc e
@@ -151,9 +151,9 @@ module _ {E : Type 0} where
     apply_waiting e others k = (
       n,
       apply_one e others acc W.0 n k.sub (k.apart S.apart).0 (k.apart S.apart).1 (λ d. (there_now d, back d))
-          (let z = S.sizes in let f = k.fewer in omega (arith, z, f))
-          (let z = S.slots in let f = k.slots in omega (arith, z, f))
-          (let z = S.room in let f = k.fewer in omega (arith, z, f)),
+          (let z = S.sizes in let f = k.fewer in omega arith)
+          (let z = S.slots in let f = k.slots in omega arith)
+          (let z = S.room in let f = k.fewer in omega arith),
     )
       where
         W : SoundEdit e × (e.id ∉ edit_ids log)
@@ -197,12 +197,12 @@ module _ {E : Type 0} where
 
   -- after as many releases as there are waiting edits none is ready
   pub release_settles : (before : Id → Id → Bool) (n : ℕ) (r : Replica E) → length r.shelf ≤ n → Settled (release before n r)
-  release_settles before zero r le = λ e m. elim (subst (λ (l : List (Edit E)). e ∈ l) (nil_from_length r.shelf (omega (arith, le))) m) [ ]
+  release_settles before zero r le = λ e m. elim (subst (λ (l : List (Edit E)). e ∈ l) (nil_from_length r.shelf (omega arith)) m) [ ]
   release_settles before (suc n) r le = go (pick (ready r) r.shelf) (picks (ready r) r.shelf) (release_settles before n)
     where
       go : (k : Pick E) → Picks (ready r) r.shelf k → ((r' : Replica E) → length r'.shelf ≤ n → Settled (release before n r')) → Settled (go_on before k r (release before n))
       go nothing k ih = k
-      go (picked e others) k ih = ih (applied before e (with_shelf others r)) (let f = k.fewer in omega (arith, f, le))
+      go (picked e others) k ih = ih (applied before e (with_shelf others r)) (let f = k.fewer in omega arith)
 
   -- the shelf does not grow
   pub release_fewer : (before : Id → Id → Bool) (n : ℕ) (r : Replica E) → length (release before n r).shelf ≤ length r.shelf
@@ -212,4 +212,4 @@ module _ {E : Type 0} where
       go : (k : Pick E) → Picks (ready r) r.shelf k → ((r' : Replica E) → length (release before n r').shelf ≤ length r'.shelf)
           → length (go_on before k r (release before n)).shelf ≤ length r.shelf
       go nothing k ih = omega arith
-      go (picked e others) k ih = let le = ih (applied before e (with_shelf others r)) in let f = k.fewer in omega (arith, le, f)
+      go (picked e others) k ih = let le = ih (applied before e (with_shelf others r)) in let f = k.fewer in omega arith

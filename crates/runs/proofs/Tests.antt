@@ -22,7 +22,7 @@ within_each (suc n) a b t i l u = go (cases_Bool (leb i n)) (within_each n a b)
 
     go : (leb i n ≡ true) ⊎ (leb i n ≡ false) → (within n a b ≡ true → (j : ℕ) → 1 ≤ j → j ≤ n → a j ≤ b j) → a i ≤ b i
     go (inl k) ih = ih both.1 i l (leb-true i n k)
-    go (inr k) ih = let gt = leb-false i n k in let last : suc n ≡ i = omega (arith, gt, u) in subst (λ (j : ℕ). a j ≤ b j) last (leb-true (a (suc n)) (b (suc n)) both.0)
+    go (inr k) ih = let gt = leb-false i n k in let last : suc n ≡ i = omega arith in subst (λ (j : ℕ). a j ≤ b j) last (leb-true (a (suc n)) (b (suc n)) both.0)
 
 pub each_within : (n : ℕ) (a b : Clock) → ((i : ℕ) → 1 ≤ i → i ≤ n → a i ≤ b i) → within n a b ≡ true
 unfolding within
@@ -96,7 +96,7 @@ module _ {E : Type 0} where
     rest = each_cons (λ (c : Edit E). (c ≡ e) ⊎ (c ∈ (d ∷ others))) d es (inr (here refl)) (λ c m. ⊎_map (λ q. q) (λ n. there n) (k.rest c m));
     sub = each_cons (λ (c : Edit E). c ∈ (d ∷ es)) d others (here refl) (λ c m. there (k.sub c m));
     fewer = ap suc k.fewer;
-    slots = let a = keep_length d es in let b = keep_length d others in let c = k.slots in omega (arith, a, b, c);
+    slots = let a = keep_length d es in let b = keep_length d others in let c = k.slots in omega arith;
     apart = λ a. (((λ m. a.0 (ids_sub others es k.sub d.id m)), (k.apart a.1).0), λ m. out a m);
   }
     where

@@ -127,11 +127,11 @@ fetch : (w : World ℕ (Carried ℕ)) (n : ℕ) (x : Carried ℕ) → n < length
     → (w.lines 0).format.reads (get_or (w.lines 0).holds.put n []) ≡ Some (x ∷ [])
     → ((w.lines 0).holds.coming ≡ 1 → (b : Bool) → b ∈ set (w.lines 0).holds.handed n true → b ≡ true) → Later w (fetched w n x)
 fetch w n x place some e last =
-    then no_call (fetches 2 0 n _ (x ∷ []) (omega arith) (record { place = place; put = refl; handed = refl; fewer = omega arith; last = λ q. last (omega (arith, q)) }) e)
+    then no_call (fetches 2 0 n _ (x ∷ []) (omega arith) (record { place = place; put = refl; handed = refl; fewer = omega arith; last = λ q. last (omega arith) }) e)
 
 -- more than one answer is to come
 not_one : {A : Type 0} {n : ℕ} → 2 ≤ n → n ≡ 1 → A
-not_one le q = let no : ⊥ = omega (arith, le, q) in absurd no
+not_one le q = let no : ⊥ = omega arith in absurd no
 
 all_handed : (b : Bool) → b ∈ (true ∷ true ∷ true ∷ true ∷ []) → b ≡ true
 all_handed = of_four (λ (b : Bool). b ≡ true) refl refl refl refl
