@@ -35,7 +35,7 @@ module _ {E : Type 0} where
 
   -- an edit does not cover itself
   pub not_own : (e : Edit E) → Lawful e → Covers e.clock e.id → ⊥
-  not_own e l c = let own = l.own in let le = c.1 in omega arith
+  not_own e l c = omega arith
 
   pub lawful_in : {h : List (Edit E)} → History h → (d : Edit E) → d ∈ h → Lawful d
   lawful_in empty = λ d m. elim m [ ]
@@ -121,7 +121,6 @@ module _ {E : Type 0} where
               let o = count_own h e in
               let c₁ : count (h ++ (e ∷ [])) e.id.editor ≡ count (h ++ (e ∷ [])) a.editor = ap (count (h ++ (e ∷ []))) p in
               let c₂ : count h e.id.editor ≡ count h a.editor = ap (count h) p in
-              let le = c.1 in
               omega arith
 
       high : (a : Id) → Covers (count (h ++ (e ∷ []))) a → (eqb e.id.editor a.editor ≡ true) ⊎ (eqb e.id.editor a.editor ≡ false)

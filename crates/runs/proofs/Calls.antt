@@ -39,7 +39,7 @@ module _ {E : Type 0} (before : Id → Id → Bool) where
   -- one is applied with what left the shelf
   growth : {r : Replica E} {acc log : List (Edit E)} (e : Edit E) → Sound before r acc log → (A : After before (log ++ (e ∷ [])) (settled before e r) (acc ++ (e ∷ [])))
       → length A.now ≡ length log + applied_with before e r
-  growth {r} {acc} e S A = let z = S.sizes in let z' = A.sound.sizes in let l = length-append acc (e ∷ []) in
+  growth {r} {acc} e S A = let l = length-append acc (e ∷ []) in
       let le = release_fewer before (length r.shelf) (applied before e r) in omega arith
 
   pub record Takes (r : Replica E) (acc log : List (Edit E)) (e : Edit E) (p : Replica E × Answer) : Type 0 where
@@ -87,7 +87,7 @@ module _ {E : Type 0} {before : Id → Id → Bool} where
     waiting = each_snoc (λ (d : Edit E). SoundEdit d × (d.id ∉ edit_ids log)) r.shelf e S.waiting (s, new);
     apart = distinct_ids_snoc r.shelf e S.apart out;
     accepted = λ d. (there_now d, back d);
-    sizes = let l = length-append r.shelf (e ∷ []) in let k = length-append acc (e ∷ []) in let z = S.sizes in omega arith;
+    sizes = let l = length-append r.shelf (e ∷ []) in let k = length-append acc (e ∷ []) in omega arith;
     slots = let q : length (keep inserts (r.shelf ++ (e ∷ []))) ≡ length (keep inserts r.shelf) + one_if (inserts e) = kept in omega arith;
     room = let lt = leb-false r.room (length r.shelf) room in let l = length-append r.shelf (e ∷ []) in omega arith;
     editors = S.editors;

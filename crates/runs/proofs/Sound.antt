@@ -68,7 +68,7 @@ module _ {E : Type 0} where
     ready_next e s new t = record { new = new; covered = λ a c. (counted S.history).full a (c.0, below a c) }
       where
         below : (a : Id) → Covers e.clock a → a.number ≤ count log a.editor
-        below a c = let lo = c.0 in let hi = c.1 in let ed = s.counts a.editor (omega arith) in
+        below a c = let ed = s.counts a.editor (omega arith) in
             let le = within_each 255 e.clock r.clock t a.editor ed.0 ed.1 in
             let q = count_clock a.editor in
             omega arith
@@ -93,7 +93,7 @@ module _ {E : Type 0} where
 
         not_applied : Covers (count log) e.id → ⊥
         not_applied c = let gt = leb-false e.id.number (r.clock e.id.editor) both.0 in
-            let q = count_clock e.id.editor in let le = c.1 in omega arith
+            let q = count_clock e.id.editor in omega arith
 
         not_waiting : (d : Edit E) × (d ∈ r.shelf) × (d.id ≡ e.id) → ⊥
         not_waiting u = both_ways _ (any_false (λ (d : Edit E). same d.id e.id) r.shelf both.1 u.0 u.1) (eq_same u.0.id e.id u.2)
@@ -135,7 +135,7 @@ module _ {E : Type 0} where
         → length (read r.forest) + (one_if (inserts e) + length (keep inserts r.shelf)) ≤ r.slots
         → Sound before (applied before e r) (acc ++ (e ∷ [])) (log ++ (e ∷ []))
     apply_new e s n out slot = apply_one e r.shelf (acc ++ (e ∷ [])) s n (λ d m. m) S.apart out (λ d. (there_now d, back d))
-        (let l = length-append acc (e ∷ []) in let z = S.sizes in omega arith) slot S.room
+        (let l = length-append acc (e ∷ []) in omega arith) slot S.room
       where
         there_now : (d : Edit E) → d ∈ (acc ++ (e ∷ [])) → (d ∈ (log ++ (e ∷ []))) ⊎ (d ∈ r.shelf)
         there_now = each_snoc (λ (d : Edit E). (d ∈ (log ++ (e ∷ []))) ⊎ (d ∈ r.shelf)) acc e
@@ -151,9 +151,9 @@ module _ {E : Type 0} where
     apply_waiting e others k = (
       n,
       apply_one e others acc W.0 n k.sub (k.apart S.apart).0 (k.apart S.apart).1 (λ d. (there_now d, back d))
-          (let z = S.sizes in let f = k.fewer in omega arith)
-          (let z = S.slots in let f = k.slots in omega arith)
-          (let z = S.room in let f = k.fewer in omega arith),
+          (omega arith)
+          (omega arith)
+          (omega arith),
     )
       where
         W : SoundEdit e × (e.id ∉ edit_ids log)
@@ -202,7 +202,7 @@ module _ {E : Type 0} where
     where
       go : (k : Pick E) → Picks (ready r) r.shelf k → ((r' : Replica E) → length r'.shelf ≤ n → Settled (release before n r')) → Settled (go_on before k r (release before n))
       go nothing k ih = k
-      go (picked e others) k ih = ih (applied before e (with_shelf others r)) (let f = k.fewer in omega arith)
+      go (picked e others) k ih = ih (applied before e (with_shelf others r)) (omega arith)
 
   -- the shelf does not grow
   pub release_fewer : (before : Id → Id → Bool) (n : ℕ) (r : Replica E) → length (release before n r).shelf ≤ length r.shelf
@@ -212,4 +212,4 @@ module _ {E : Type 0} where
       go : (k : Pick E) → Picks (ready r) r.shelf k → ((r' : Replica E) → length (release before n r').shelf ≤ length r'.shelf)
           → length (go_on before k r (release before n)).shelf ≤ length r.shelf
       go nothing k ih = omega arith
-      go (picked e others) k ih = let le = ih (applied before e (with_shelf others r)) in let f = k.fewer in omega arith
+      go (picked e others) k ih = let le = ih (applied before e (with_shelf others r)) in omega arith
