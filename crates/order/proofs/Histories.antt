@@ -68,7 +68,7 @@ module _ {E : Type 0} where
   -- counting
   count_append : (h k : List (Edit E)) (editor : ℕ) → count (h ++ k) editor ≡ count h editor + count k editor
   count_append [] k editor = omega arith
-  count_append (e ∷ h) k editor = let ih = count_append h k editor in omega arith
+  count_append (e ∷ h) k editor = omega (arith, count_append h k editor)
 
   pub count_own : (h : List (Edit E)) (e : Edit E) → count (h ++ (e ∷ [])) e.id.editor ≡ suc (count h e.id.editor)
   count_own h e = let s = count_append h (e ∷ []) e.id.editor in
@@ -81,7 +81,7 @@ module _ {E : Type 0} where
       omega arith
 
   pub count_grows : (h : List (Edit E)) (e : Edit E) (editor : ℕ) → count h editor ≤ count (h ++ (e ∷ [])) editor
-  count_grows h e editor = let s = count_append h (e ∷ []) editor in omega arith
+  count_grows h e editor = omega (arith, count_append h (e ∷ []) editor)
 
   -- the edits of each editor in a history are numbered from 1 to their count
   pub record Counted (h : List (Edit E)) : Type 0 where
@@ -102,14 +102,14 @@ module _ {E : Type 0} where
           → (leb e.id.number (count h e.id.editor) ≡ true) ⊎ (leb e.id.number (count h e.id.editor) ≡ false)
           → e.id.number ≡ suc (count h e.id.editor)
       go own (inl t) = absurd (n.new (C.full e.id (omega arith, leb-true e.id.number (count h e.id.editor) t)))
-      go own (inr t) = let gt = leb-false e.id.number (count h e.id.editor) t in omega (arith, low)
+      go own (inr t) = omega (arith, leb-false e.id.number (count h e.id.editor) t, low)
 
   counted_more : {h : List (Edit E)} → Counted h → (e : Edit E) → e.id.number ≡ suc (count h e.id.editor) → Counted (h ++ (e ∷ []))
   counted_more {h} C e num = record { within = λ a m. low a (ids_snoc h e m); full = λ a c. high a c (cases_Bool (eqb e.id.editor a.editor)) }
     where
       low : (a : Id) → (a ∈ edit_ids h) ⊎ (a ≡ e.id) → Covers (count (h ++ (e ∷ []))) a
-      low a (inl m) = let c = C.within a m in let g = count_grows h e a.editor in omega arith
-      low a (inr p) = subst (Covers (count (h ++ (e ∷ [])))) (sym p) (let o = count_own h e in omega arith)
+      low a (inl m) = omega (arith, C.within a m, count_grows h e a.editor)
+      low a (inr p) = subst (Covers (count (h ++ (e ∷ [])))) (sym p) (omega (arith, count_own h e))
 
       last : (a : Id) → Covers (count (h ++ (e ∷ []))) a → e.id.editor ≡ a.editor
           → (leb a.number (count h a.editor) ≡ true) ⊎ (leb a.number (count h a.editor) ≡ false) → a ∈ edit_ids (h ++ (e ∷ []))

@@ -106,7 +106,7 @@ module _ {E : Type 0} {before : Id → Id → Bool} where
 
         next_all : Next (edits_of ms) e
         next_all = record {
-          new = λ k. let le = ((counted F.all).within e.id k).1 in omega (arith, number);
+          new = λ k. omega (arith, ((counted F.all).within e.id k).1, number);
           covered = λ a v. ids_sub M.known (edits_of ms) M.part a (M.next.covered a v);
         }
 
@@ -185,9 +185,7 @@ module _ {E : Type 0} {before : Id → Id → Bool} where
 
     edits_counts : (i j : ℕ) → SameEdits (hs i) (hs j) → SameCounts (hs i) (hs j)
     edits_counts i j alike editor =
-        let a = count_part (counted (F.each i)) (counted (F.each j)) (ids_sub (hs i) (hs j) (λ e. (alike e).0)) editor in
-        let b = count_part (counted (F.each j)) (counted (F.each i)) (ids_sub (hs j) (hs i) (λ e. (alike e).1)) editor in
-        omega arith
+        omega (arith, count_part (counted (F.each i)) (counted (F.each j)) (ids_sub (hs i) (hs j) (λ e. (alike e).0)) editor, count_part (counted (F.each j)) (counted (F.each i)) (ids_sub (hs j) (hs i) (λ e. (alike e).1)) editor)
 
     pub agreement : Order before → (i j : ℕ) → (SameCounts (hs i) (hs j) ↔ SameEdits (hs i) (hs j))
         × (SameEdits (hs i) (hs j) → visible (tree before (hs i)) ≡ visible (tree before (hs j)))

@@ -24,7 +24,7 @@ use Rattle.runs.proofs.Rosters.{new_rostered, takes_rostered, commit_rostered}
 total_same : {E : Type 0} (n : ℕ) (h : List (Edit E)) (e : Edit E) → n < e.id.editor → total n (count (h ++ (e ∷ []))) ≡ total n (count h)
 unfolding total
 total_same zero h e l = refl
-total_same (suc n) h e l = let ih = total_same n h e (omega arith) in let o = count_other h e (suc n) (λ p. apart p) in omega arith
+total_same (suc n) h e l = omega (arith, total_same n h e (omega arith), count_other h e (suc n) (λ p. apart p))
   where
     apart : e.id.editor ≡ suc n → ⊥
     apart p = omega arith
@@ -39,8 +39,7 @@ total_more (suc n) h e l u = go (cases_Bool (eqb e.id.editor (suc n))) (total_mo
         → count (h ++ (e ∷ [])) (suc n) + total n (count (h ++ (e ∷ []))) ≡ suc (count h (suc n) + total n (count h))
     go (inl t) ih = let p = eqb-true e.id.editor (suc n) t in
         let o : count (h ++ (e ∷ [])) (suc n) ≡ suc (count h (suc n)) = subst (λ (j : ℕ). count (h ++ (e ∷ [])) j ≡ suc (count h j)) p (count_own h e) in
-        let s = total_same n h e (omega arith) in
-        omega arith
+        omega (arith, total_same n h e (omega arith))
     go (inr t) ih = let ne = eqb-false e.id.editor (suc n) t in
         let o = count_other h e (suc n) ne in
         let i = ih (omega arith) in
@@ -49,7 +48,7 @@ total_more (suc n) h e l u = go (cases_Bool (eqb e.id.editor (suc n))) (total_mo
 total_none : (n : ℕ) → total n (λ i. 0) ≡ 0
 unfolding total
 total_none zero = refl
-total_none (suc n) = let ih = total_none n in omega arith
+total_none (suc n) = omega (arith, total_none n)
 
 -- a clock adds up to the number of edits that it counts
 total_length : {E : Type 0} {h : List (Edit E)} → History h → ((e : Edit E) → e ∈ h → Editor e.id.editor) → total 255 (count h) ≡ length h

@@ -26,7 +26,7 @@ slot_left : {E : Type 0} (r : Replica E) (e : Edit E) → (inserts e && full r) 
 slot_left r e t le = go (inserts e) t
   where
     go : (b : Bool) → (b && full r) ≡ false → length (read r.forest) + (one_if b + length (keep inserts r.shelf)) ≤ r.slots
-    go true u = let gt = leb-false r.slots (length (read r.forest) + length (keep inserts r.shelf)) u in omega arith
+    go true u = omega (arith, leb-false r.slots (length (read r.forest) + length (keep inserts r.shelf)) u)
     go false u = omega arith
 
 pub own_is : {E : Type 0} (r : Replica E) (i : ℕ) → r.editor ≡ Some i → own r ≡ i
@@ -39,8 +39,7 @@ module _ {E : Type 0} (before : Id → Id → Bool) where
   -- one is applied with what left the shelf
   growth : {r : Replica E} {acc log : List (Edit E)} (e : Edit E) → Sound before r acc log → (A : After before (log ++ (e ∷ [])) (settled before e r) (acc ++ (e ∷ [])))
       → length A.now ≡ length log + applied_with before e r
-  growth {r} {acc} e S A = let l = length-append acc (e ∷ []) in
-      let le = release_fewer before (length r.shelf) (applied before e r) in omega arith
+  growth {r} {acc} e S A = omega (arith, length-append acc (e ∷ []), release_fewer before (length r.shelf) (applied before e r))
 
   pub record Takes (r : Replica E) (acc log : List (Edit E)) (e : Edit E) (p : Replica E × Answer) : Type 0 where
     pub after : After before log p.0 (acc ++ accepted_by p.1 e)
@@ -67,7 +66,7 @@ module _ {E : Type 0} {before : Id → Id → Bool} where
     where
       few : (b : Bool) → (not b && leb most_editors (length r.roster)) ≡ false → length (cond b r.roster (placed e.id.editor r.roster)) ≤ most_editors
       few true u = S.editors
-      few false u = let lt = leb-false most_editors (length r.roster) u in let l = placed_length e.id.editor r.roster in omega arith
+      few false u = omega (arith, leb-false most_editors (length r.roster) u, placed_length e.id.editor r.roster)
 
   -- a new edit is applied, and then what waited for it
   settle : {r : Replica E} {acc log : List (Edit E)} → Sound before r acc log → (e : Edit E) → SoundEdit e → Next log e → e.id ∉ edit_ids r.shelf
@@ -87,17 +86,15 @@ module _ {E : Type 0} {before : Id → Id → Bool} where
     waiting = each_snoc (λ (d : Edit E). SoundEdit d × (d.id ∉ edit_ids log)) r.shelf e S.waiting (s, new);
     apart = distinct_ids_snoc r.shelf e S.apart out;
     accepted = λ d. (there_now d, back d);
-    sizes = let l = length-append r.shelf (e ∷ []) in let k = length-append acc (e ∷ []) in omega arith;
+    sizes = omega (arith, length-append r.shelf (e ∷ []), length-append acc (e ∷ []));
     slots = let q : length (keep inserts (r.shelf ++ (e ∷ []))) ≡ length (keep inserts r.shelf) + one_if (inserts e) = kept in omega arith;
-    room = let lt = leb-false r.room (length r.shelf) room in let l = length-append r.shelf (e ∷ []) in omega arith;
+    room = omega (arith, leb-false r.room (length r.shelf) room, length-append r.shelf (e ∷ []));
     editors = S.editors;
   }
     where
       kept : length (keep inserts (r.shelf ++ (e ∷ []))) ≡ length (keep inserts r.shelf) + one_if (inserts e)
       kept = let a : length (keep inserts (r.shelf ++ (e ∷ []))) ≡ length (keep inserts r.shelf ++ keep inserts (e ∷ [])) = ap length (keep_append inserts r.shelf (e ∷ [])) in
-          let b = length-append (keep inserts r.shelf) (keep inserts (e ∷ [])) in
-          let c = keep_length e [] in
-          omega arith
+          omega (arith, length-append (keep inserts r.shelf) (keep inserts (e ∷ [])), keep_length e [])
 
       there_now : (d : Edit E) → d ∈ (acc ++ (e ∷ [])) → (d ∈ log) ⊎ (d ∈ (r.shelf ++ (e ∷ [])))
       there_now = each_snoc (λ (d : Edit E). (d ∈ log) ⊎ (d ∈ (r.shelf ++ (e ∷ [])))) acc e

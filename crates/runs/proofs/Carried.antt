@@ -74,7 +74,7 @@ listed_above low (q ∷ ps) t =
     let parts = three (ltb low q.editor) (ltb 0 q.count) (ascending q.editor ps) t in
     let above = ltb-true low q.editor parts.0 in
     let later = listed_above q.editor ps parts.2 in
-    each_cons (λ (p : Pair). low < p.editor) q ps above (λ p m. let more = later p m in omega arith)
+    each_cons (λ (p : Pair). low < p.editor) q ps above (λ p m. omega (arith, later p m))
 
 pub carried_sound : {E : Type 0} (x : Carried E) → ByteWide x → SoundEdit (edit_of x)
 carried_sound x wide = record {

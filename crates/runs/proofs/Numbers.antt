@@ -68,22 +68,18 @@ side_long Right r = omega arith
 
 pairs_long : (ps : List Pair) → length (put_pairs ps) ≡ length ps + length ps
 pairs_long [] = refl
-pairs_long (p ∷ ps) = let rest = pairs_long ps in omega arith
+pairs_long (p ∷ ps) = omega (arith, pairs_long ps)
 
 stamp_long : (s : Stamp) → length (put_stamp s) ≡ 35
 stamp_long s =
     let c = s.clock in
     let all : length c.pairs ≡ 16 = (kept_parts c (stamp_rules s).1).0 in
-    let flat = pairs_long c.pairs in
-    omega arith
+    omega (arith, pairs_long c.pairs)
 
 edit_long : (x : Carried ℕ) → length (put_edit x) ≤ 41
 edit_long (Insertion p x) =
-    let a = parent_long p.parent (put_side p.side (x ∷ put_stamp p.stamp)) in
-    let b = side_long p.side (x ∷ put_stamp p.stamp) in
-    let c = stamp_long p.stamp in
-    omega arith
-edit_long (Deletion d) = let c = stamp_long d.stamp in omega arith
+    omega (arith, parent_long p.parent (put_side p.side (x ∷ put_stamp p.stamp)), side_long p.side (x ∷ put_stamp p.stamp), stamp_long p.stamp)
+edit_long (Deletion d) = omega (arith, stamp_long d.stamp)
 
 some_numbers : (x : Carried ℕ) → 1 ≤ length (put_edit x)
 some_numbers (Insertion p x) = omega arith
@@ -159,7 +155,7 @@ numbers_lawful = record {
     packing (x ∷ xs) some fit = record {
       bytes = small_bytes (put_edit x) (fit x (here refl));
       some_bytes = some_numbers x;
-      few_bytes = let few = edit_long x in omega arith;
+      few_bytes = omega (arith, edit_long x);
       some_edits = omega arith;
       at_hand = omega arith;
       read_back = edit_back x;

@@ -103,9 +103,7 @@ module _ {E X : Type 0} {before : Id → Id → Bool} (O : Order before) (meanin
   made_bound d m i = let u = of_map making_edit w.makings m in let M = F.made u.0 u.1 in
       let le = count_part (counted M.history) (counted F.all) (ids_sub M.known (edits_of w.makings) M.part) i in
       let p : d.clock i ≡ count M.known i = ap (λ (e : Edit E). e.clock i) (sym u.2) ∙ ap (λ (f : Clock). f i) M.clock in
-      let q = F.own i in
-      let c = clock_at i i in
-      omega arith
+      omega (arith, F.own i, clock_at i i)
 
   -- no edit that waits has waited for an edit that is made just now
   nothing_waited : (i : ℕ) (e : Edit E) → e.id.editor ≡ i → Settled (applied before e (w.replicas i))

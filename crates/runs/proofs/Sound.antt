@@ -36,9 +36,9 @@ module _ {E : Type 0} where
 
   -- a change puts in one entry at most
   effect_length : (a : Id) (c : Change E) (xs ys : List (Entry E)) → Effect a c xs ys → length ys ≤ length xs + one_if (is_insertion c)
-  effect_length a (insertion parent.Start s x) xs ys g = let l = grew_length g in omega arith
+  effect_length a (insertion parent.Start s x) xs ys g = omega (arith, grew_length g)
   effect_length a (insertion (parent.Entry p) s x) xs ys (inl u) = let l : length ys ≡ length xs = ap length u.0 in omega arith
-  effect_length a (insertion (parent.Entry p) s x) xs ys (inr u) = let l = grew_length u.0 in omega arith
+  effect_length a (insertion (parent.Entry p) s x) xs ys (inr u) = omega (arith, grew_length u.0)
   effect_length a (deletion t) xs ys u = let l : length ys ≡ length xs = ap length u ∙ length-map xs (hide t) in omega arith
 
   -- what the replica r holds that has accepted acc, and has applied log in this order
@@ -80,9 +80,7 @@ module _ {E : Type 0} where
         go : (i n : ℕ) → e.clock i ≡ n → e.clock i ≤ r.clock i
         go i zero p = omega arith
         go i (suc n) p = let a : Id = record { editor = i; number = suc n } in
-            let c = ((counted S.history).within a (all a (omega arith))).1 in
-            let q = count_clock i in
-            omega arith
+            omega (arith, ((counted S.history).within a (all a (omega arith))).1, count_clock i)
 
     -- an edit that is not known is neither applied nor waiting
     pub unknown_new : (e : Edit E) → is_known r e.id ≡ false → (e.id ∉ edit_ids log) × (e.id ∉ edit_ids r.shelf)
@@ -92,8 +90,7 @@ module _ {E : Type 0} where
         both = or_parts (leb e.id.number (r.clock e.id.editor)) (waits r e.id) t
 
         not_applied : Covers (count log) e.id → ⊥
-        not_applied c = let gt = leb-false e.id.number (r.clock e.id.editor) both.0 in
-            let q = count_clock e.id.editor in omega arith
+        not_applied c = omega (arith, leb-false e.id.number (r.clock e.id.editor) both.0, count_clock e.id.editor)
 
         not_waiting : (d : Edit E) × (d ∈ r.shelf) × (d.id ≡ e.id) → ⊥
         not_waiting u = both_ways _ (any_false (λ (d : Edit E). same d.id e.id) r.shelf both.1 u.0 u.1) (eq_same u.0.id e.id u.2)
@@ -113,8 +110,8 @@ module _ {E : Type 0} where
       waiting = λ d m. ((S.waiting d (sub d m)).0, λ k. not_there d m (ids_snoc log e k));
       apart = apart;
       accepted = same-acc;
-      sizes = let l = length-append log (e ∷ []) in omega arith;
-      slots = let l = effect_length e.id e.change (read r.forest) (read (apply before e r.forest)) grown in omega arith;
+      sizes = omega (arith, length-append log (e ∷ []));
+      slots = omega (arith, effect_length e.id e.change (read r.forest) (read (apply before e r.forest)) grown);
       room = few;
       editors = S.editors;
     }
@@ -135,7 +132,7 @@ module _ {E : Type 0} where
         → length (read r.forest) + (one_if (inserts e) + length (keep inserts r.shelf)) ≤ r.slots
         → Sound before (applied before e r) (acc ++ (e ∷ [])) (log ++ (e ∷ []))
     apply_new e s n out slot = apply_one e r.shelf (acc ++ (e ∷ [])) s n (λ d m. m) S.apart out (λ d. (there_now d, back d))
-        (let l = length-append acc (e ∷ []) in omega arith) slot S.room
+        (omega (arith, length-append acc (e ∷ []))) slot S.room
       where
         there_now : (d : Edit E) → d ∈ (acc ++ (e ∷ [])) → (d ∈ (log ++ (e ∷ []))) ⊎ (d ∈ r.shelf)
         there_now = each_snoc (λ (d : Edit E). (d ∈ (log ++ (e ∷ []))) ⊎ (d ∈ r.shelf)) acc e
@@ -212,4 +209,4 @@ module _ {E : Type 0} where
       go : (k : Pick E) → Picks (ready r) r.shelf k → ((r' : Replica E) → length (release before n r').shelf ≤ length r'.shelf)
           → length (go_on before k r (release before n)).shelf ≤ length r.shelf
       go nothing k ih = omega arith
-      go (picked e others) k ih = let le = ih (applied before e (with_shelf others r)) in omega arith
+      go (picked e others) k ih = omega (arith, ih (applied before e (with_shelf others r)))

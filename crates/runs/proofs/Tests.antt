@@ -96,7 +96,7 @@ module _ {E : Type 0} where
     rest = each_cons (λ (c : Edit E). (c ≡ e) ⊎ (c ∈ (d ∷ others))) d es (inr (here refl)) (λ c m. ⊎_map (λ q. q) (λ n. there n) (k.rest c m));
     sub = each_cons (λ (c : Edit E). c ∈ (d ∷ es)) d others (here refl) (λ c m. there (k.sub c m));
     fewer = ap suc k.fewer;
-    slots = let a = keep_length d es in let b = keep_length d others in omega arith;
+    slots = omega (arith, keep_length d es, keep_length d others);
     apart = λ a. (((λ m. a.0 (ids_sub others es k.sub d.id m)), (k.apart a.1).0), λ m. out a m);
   }
     where
