@@ -3,7 +3,7 @@ use Rattle.std.proofs.Common.{◌≡◌, ℕ, suc, ◌<◌, ◌≤◌, Bool, tru
 use Rattle.std.proofs.lemmas.Bool.{false≢true}
 use Rattle.edits.specs.declared.edit.Parent.{Parent}
 use Rattle.edits.specs.declared.edit.Side.{Side}
-use Rattle.std.proofs.lemmas.List.{map-append}
+use Rattle.std.proofs.lemmas.List.{map-append, map_push}
 use Rattle.edits.specs.declared.id.Id.{Id}
 use Rattle.edits.specs.declared.edit.Parent.TheVariants.{Entry}
 use Rattle.order.specs.Lists.{◌∈◌, ◌⊆◌, here, keep}
@@ -96,7 +96,7 @@ module _ {E : Type 0} {before : Id → Id → Bool} where
         e = m.edit
 
         same : edits_of (ms ++ (m ∷ [])) ≡ edits_of ms ++ (e ∷ [])
-        same = map-append making_edit ms (m ∷ [])
+        same = map_push making_edit ms m
 
         editor : e.id.editor ≡ i
         editor = ap (λ (d : Edit E). d.id.editor) p

@@ -1,5 +1,6 @@
 -- One replica, given any edits: its document is the tree of exactly the applied edits.
-use Rattle.std.proofs.Common.{◌≡◌, ℕ, zero, suc, ◌+◌, ◌<◌, ◌≤◌, Bool, true, false, eqb, ltb, leb, ◌⊎◌, List, [], ◌∷◌, ◌++◌, length, Some, None, Option, sym, refl, ap, ◌∙◌, subst, inl, inr, arith, length-append, ltb-false, eqb-true, leb-false}
+use Rattle.std.proofs.Common.{◌≡◌, ℕ, zero, suc, ◌+◌, ◌<◌, ◌≤◌, Bool, true, false, eqb, ltb, leb, ◌⊎◌, List, [], ◌∷◌, ◌++◌, length, Some, None, Option, sym, refl, ap, ◌∙◌, subst, inl, inr, arith, ltb-false, eqb-true, leb-false}
+use Rattle.std.proofs.lemmas.List.{length_push}
 use Rattle.std.proofs.lemmas.Bool.{both_ways, cases_Bool, eqb-false}
 use Rattle.std.proofs.Math.Path.{fun_ext}
 use Rattle.edits.specs.declared.id.Id.{Id}
@@ -24,10 +25,7 @@ use Rattle.runs.proofs.Rosters.{new_rostered, takes_rostered, commit_rostered}
 total_same : {E : Type 0} (n : ℕ) (h : List (Edit E)) (e : Edit E) → n < e.id.editor → total n (count (h ++ (e ∷ []))) ≡ total n (count h)
 unfolding total
 total_same zero h e l = refl
-total_same (suc n) h e l = omega (arith, total_same n h e (omega arith), count_other h e (suc n) (λ p. apart p))
-  where
-    apart : e.id.editor ≡ suc n → ⊥
-    apart p = omega arith
+total_same (suc n) h e l = omega (arith, total_same n h e (omega arith), count_other h e (suc n) (λ p. omega arith))
 
 total_more : {E : Type 0} (n : ℕ) (h : List (Edit E)) (e : Edit E) → 1 ≤ e.id.editor → e.id.editor ≤ n → total n (count (h ++ (e ∷ []))) ≡ suc (total n (count h))
 unfolding total
@@ -53,7 +51,7 @@ total_none (suc n) = omega (arith, total_none n)
 -- a clock adds up to the number of edits that it counts
 total_length : {E : Type 0} {h : List (Edit E)} → History h → ((e : Edit E) → e ∈ h → Editor e.id.editor) → total 255 (count h) ≡ length h
 total_length empty ed = total_none 255
-total_length (more {h} e H l n) ed = let o = ed e (in_last h e) in let k = length-append h (e ∷ []) in
+total_length (more {h} e H l n) ed = let o = ed e (in_last h e) in let k = length_push h e in
     let a = total_more 255 h e o.0 o.1 in let ih = total_length H (λ d m. ed d (in_left h (e ∷ []) m)) in omega arith
 
 module _ {E : Type 0} where

@@ -1,5 +1,6 @@
 -- Taking in, inserting and deleting keep a replica sound.
 use Rattle.std.proofs.Common.{◌≡◌, ℕ, suc, ◌+◌, ◌<◌, ◌≤◌, Bool, true, false, cond, not, ◌&&◌, eqb, ltb, leb, ◌⊎◌, List, [], ◌∷◌, ◌++◌, length, Some, None, Option, sym, refl, ap, ◌∙◌, subst, inl, inr, append-nil, arith, length-append, eq-eqb, leb-false}
+use Rattle.std.proofs.lemmas.List.{length_push}
 use Rattle.std.proofs.lemmas.Bool.{both_ways}
 use Rattle.std.proofs.Math.Logic.{⊎_map}
 use Rattle.edits.specs.declared.id.Id.{Id}
@@ -39,7 +40,7 @@ module _ {E : Type 0} (before : Id → Id → Bool) where
   -- one is applied with what left the shelf
   growth : {r : Replica E} {acc log : List (Edit E)} (e : Edit E) → Sound before r acc log → (A : After before (log ++ (e ∷ [])) (settled before e r) (acc ++ (e ∷ [])))
       → length A.now ≡ length log + applied_with before e r
-  growth {r} {acc} e S A = omega (arith, length-append acc (e ∷ []), release_fewer before (length r.shelf) (applied before e r))
+  growth {r} {acc} e S A = omega (arith, length_push acc e, release_fewer before (length r.shelf) (applied before e r))
 
   pub record Takes (r : Replica E) (acc log : List (Edit E)) (e : Edit E) (p : Replica E × Answer) : Type 0 where
     pub after : After before log p.0 (acc ++ accepted_by p.1 e)
@@ -86,9 +87,9 @@ module _ {E : Type 0} {before : Id → Id → Bool} where
     waiting = each_snoc (λ (d : Edit E). SoundEdit d × (d.id ∉ edit_ids log)) r.shelf e S.waiting (s, new);
     apart = distinct_ids_snoc r.shelf e S.apart out;
     accepted = λ d. (there_now d, back d);
-    sizes = omega (arith, length-append r.shelf (e ∷ []), length-append acc (e ∷ []));
-    slots = let q : length (keep inserts (r.shelf ++ (e ∷ []))) ≡ length (keep inserts r.shelf) + one_if (inserts e) = kept in omega arith;
-    room = omega (arith, leb-false r.room (length r.shelf) room, length-append r.shelf (e ∷ []));
+    sizes = omega (arith, length_push r.shelf e, length_push acc e);
+    slots = omega (arith, kept);
+    room = omega (arith, leb-false r.room (length r.shelf) room, length_push r.shelf e);
     editors = S.editors;
   }
     where

@@ -1,7 +1,7 @@
 -- Every run of the calls is one of replicas that make edits and take them in: each replica has a log of what it applied.
 use Rattle.std.proofs.Common.{◌≡◌, ℕ, ◌<◌, ◌≤◌, Bool, false, ltb, leb, List, [], ◌∷◌, ◌++◌, map, length, get_or, take, drop, Some, None, Option, sym, refl, ap, ◌∙◌, subst, inl, inr, append_assoc, append-nil, take-append-drop, ltb-false, leb-false}
 use Rattle.std.proofs.Math.Path.{fun_ext}
-use Rattle.std.proofs.lemmas.List.{map-append}
+use Rattle.std.proofs.lemmas.List.{map_push}
 use Rattle.std.proofs.lemmas.Option.{none-some, same_Some}
 use Rattle.edits.specs.declared.id.Id.{Id}
 use Rattle.edits.specs.declared.fault.Fault.{Fault}
@@ -144,7 +144,7 @@ module _ {E X : Type 0} (before : Id → Id → Bool) (meaning : X → Edit E) w
     roster = at_two (λ j r' acc. Rostered r' acc) w.replicas w.accepted i _ _ on_roster (λ j ne. S.roster j);
     owner = at_each (λ j r'. r'.editor ≡ Some j) w.replicas i r (same-editor ∙ S.owner i) (λ j ne. S.owner j);
     honest = at_all (λ (acc : List (Edit E)). acc ⊆ edits_of (w.makings ++ (m ∷ []))) w.accepted i _ own (λ j d k. wider d (S.honest j d k));
-    edits = subst (λ (l : List (Edit E)). (d : Edit E) → d ∈ l → SoundEdit d) (sym (map-append making_edit w.makings (m ∷ [])))
+    edits = subst (λ (l : List (Edit E)). (d : Edit E) → d ∈ l → SoundEdit d) (sym (map_push making_edit w.makings m))
         (each_snoc SoundEdit (edits_of w.makings) m.edit S.edits s);
     records = λ c b k xs q x o. wider (meaning x) (S.records c b k xs q x o);
     formats = S.formats;

@@ -1,9 +1,9 @@
 -- What every call at one replica keeps, whatever edits come in.
-use Rattle.std.proofs.Common.{◌≡◌, ℕ, zero, suc, ◌+◌, ◌≤◌, Bool, true, false, eqb, leb, ◌⊎◌, ◌↔◌, List, [], ◌∷◌, ◌++◌, length, sym, refl, ap, ◌∙◌, subst, inl, inr, arith, length-append, eqb-true, leb-false}
+use Rattle.std.proofs.Common.{◌≡◌, ℕ, zero, suc, ◌+◌, ◌≤◌, Bool, true, false, eqb, leb, ◌⊎◌, ◌↔◌, List, [], ◌∷◌, ◌++◌, length, sym, refl, ap, ◌∙◌, subst, inl, inr, arith, eqb-true, leb-false}
 use Rattle.std.proofs.lemmas.Bool.{both_ways, cases_Bool, eqb-false, or_parts}
 use Rattle.std.proofs.Math.Logic.{⊎_map}
 use Rattle.std.proofs.Math.Path.{fun_ext}
-use Rattle.std.proofs.lemmas.List.{length-map, nil_from_length}
+use Rattle.std.proofs.lemmas.List.{length_push, length-map, nil_from_length}
 use Rattle.edits.specs.declared.id.Id.{Id}
 use Rattle.edits.specs.declared.edit.Parent.TheVariants as parent
 use Rattle.edits.specs.Ids.{same}
@@ -110,7 +110,7 @@ module _ {E : Type 0} where
       waiting = λ d m. ((S.waiting d (sub d m)).0, λ k. not_there d m (ids_snoc log e k));
       apart = apart;
       accepted = same-acc;
-      sizes = omega (arith, length-append log (e ∷ []));
+      sizes = omega (arith, length_push log e);
       slots = omega (arith, effect_length e.id e.change (read r.forest) (read (apply before e r.forest)) grown);
       room = few;
       editors = S.editors;
@@ -132,7 +132,7 @@ module _ {E : Type 0} where
         → length (read r.forest) + (one_if (inserts e) + length (keep inserts r.shelf)) ≤ r.slots
         → Sound before (applied before e r) (acc ++ (e ∷ [])) (log ++ (e ∷ []))
     apply_new e s n out slot = apply_one e r.shelf (acc ++ (e ∷ [])) s n (λ d m. m) S.apart out (λ d. (there_now d, back d))
-        (omega (arith, length-append acc (e ∷ []))) slot S.room
+        (omega (arith, length_push acc e)) slot S.room
       where
         there_now : (d : Edit E) → d ∈ (acc ++ (e ∷ [])) → (d ∈ (log ++ (e ∷ []))) ⊎ (d ∈ r.shelf)
         there_now = each_snoc (λ (d : Edit E). (d ∈ (log ++ (e ∷ []))) ⊎ (d ∈ r.shelf)) acc e
