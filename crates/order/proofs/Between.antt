@@ -1,7 +1,7 @@
 -- What is below an entry on a side stands together, next to the entry; and whether an entry has a right child.
-use Rattle.std.proofs.Common.{◌≡◌, Bool, true, false, ◌&&◌, ◌||◌, ◌⊎◌, List, [], ◌∷◌, ◌++◌, Some, sym, refl, ap, ◌∙◌, subst, inl, inr, append_assoc, append-nil}
+use Rattle.std.proofs.Common.{◌≡◌, Bool, true, ◌&&◌, ◌⊎◌, List, [], ◌∷◌, ◌++◌, Some, sym, refl, ap, ◌∙◌, subst, inl, inr, append_assoc, append-nil}
 use Rattle.std.proofs.lemmas.Option.{same_Some}
-use Rattle.std.proofs.lemmas.Bool.{false≢true, and_parts, or_left, or_right}
+use Rattle.std.proofs.lemmas.Bool.{false≢true, and_parts, or_cases, or_left, or_right}
 use Rattle.edits.specs.declared.id.Id.{Id}
 use Rattle.edits.specs.declared.edit.Side.{Side}
 use Rattle.edits.specs.declared.edit.Side.TheVariants.{Left, Right}
@@ -73,12 +73,6 @@ block_between s b us ks vs d a y c m k p q = go (in_split us rest (before_right 
     go : (y ∈ us) ⊎ (y ∈ rest) → y ∈ ks
     go (inl h) = absurd (before_once all d a y p (before_across us rest y a h (in_left (block s b ks) vs (in_block s b ks m))))
     go (inr h) = end (in_split (block s b ks) vs h)
-
-any_true : (a b c d : Bool) → (a || (b || (c || d))) ≡ true → (a ≡ true) ⊎ ((b ≡ true) ⊎ ((c ≡ true) ⊎ (d ≡ true)))
-any_true true b c d e = inl refl
-any_true false true c d e = inr (inl refl)
-any_true false false true d e = inr (inr (inl refl))
-any_true false false false d e = inr (inr (inr e))
 
 module _ {E : Type 0} where
   -- what is below an entry is in the part of the node where the entry is
@@ -219,28 +213,23 @@ module _ {E : Type 0} where
   -- an entry has a right child where something is below it on the right
   right_below : (b : Id) (f : Forest E) → has_right b f ≡ true → (a : Id) × Under Right b f a
   right_below b nil e = absurd (false≢true e)
-  right_below b (node x l r n) e = go (any_true (same x.id b && is_node r) (has_right b l) (has_right b r) (has_right b n) e)
-      (right_below b l) (right_below b r) (right_below b n)
-    where
-      Step : Forest E → Type 0
-      Step f = has_right b f ≡ true → (a : Id) × Under Right b f a
-
-      go : ((same x.id b && is_node r) ≡ true) ⊎ ((has_right b l ≡ true) ⊎ ((has_right b r ≡ true) ⊎ (has_right b n ≡ true)))
-          → Step l → Step r → Step n → (a : Id) × Under Right b (node x l r n) a
-      go (inl t) L R N = let h = and_parts (same x.id b) (is_node r) t in let k = node_has r h.1 in (k.0, inl (same_eq x.id b h.0, k.1))
-      go (inr (inl t)) L R N = let k = L t in (k.0, inr (inl k.1))
-      go (inr (inr (inl t))) L R N = let k = R t in (k.0, inr (inr (inl k.1)))
-      go (inr (inr (inr t))) L R N = let k = N t in (k.0, inr (inr (inr k.1)))
+  right_below b (node x l r n) e = elim (or_cases (same x.id b && is_node r) _ e) [
+    | inl t ↦ let h = and_parts (same x.id b) (is_node r) t in let k = node_has r h.1 in (k.0, inl (same_eq x.id b h.0, k.1))
+    | inr f ↦ elim (or_cases (has_right b l) _ f) [
+      | inl t ↦ let k = right_below b l t in (k.0, inr (inl k.1))
+      | inr g ↦ elim (or_cases (has_right b r) _ g) [
+        | inl t ↦ let k = right_below b r t in (k.0, inr (inr (inl k.1)))
+        | inr t ↦ let k = right_below b n t in (k.0, inr (inr (inr k.1)))
+      ]
+    ]
+  ]
 
   pub below_right : (b : Id) (f : Forest E) (a : Id) → Under Right b f a → has_right b f ≡ true
   below_right b nil a u = absurd u
   below_right b (node x l r n) a (inl u) = rw (eq_same x.id b u.0, has_node r u.1)
-  below_right b (node x l r n) a (inr (inl u)) = or_right (same x.id b && is_node r) (has_right b l || (has_right b r || has_right b n))
-      (or_left (has_right b l) (has_right b r || has_right b n) (below_right b l a u))
-  below_right b (node x l r n) a (inr (inr (inl u))) = or_right (same x.id b && is_node r) (has_right b l || (has_right b r || has_right b n))
-      (or_right (has_right b l) (has_right b r || has_right b n) (or_left (has_right b r) (has_right b n) (below_right b r a u)))
-  below_right b (node x l r n) a (inr (inr (inr u))) = or_right (same x.id b && is_node r) (has_right b l || (has_right b r || has_right b n))
-      (or_right (has_right b l) (has_right b r || has_right b n) (or_right (has_right b r) (has_right b n) (below_right b n a u)))
+  below_right b (node x l r n) a (inr (inl u)) = or_right (same x.id b && is_node r) _ (or_left (has_right b l) _ (below_right b l a u))
+  below_right b (node x l r n) a (inr (inr (inl u))) = or_right (same x.id b && is_node r) _ (or_right (has_right b l) _ (or_left (has_right b r) _ (below_right b r a u)))
+  below_right b (node x l r n) a (inr (inr (inr u))) = or_right (same x.id b && is_node r) _ (or_right (has_right b l) _ (or_right (has_right b r) _ (below_right b n a u)))
 
   -- an entry with a right child has a follower, which is below it on the right
   pub followed : (b : Id) (f : Forest E) → Distinct (ids f) → has_right b f ≡ true → (a : Id) × (after b (ids f) ≡ Some a) × Under Right b f a

@@ -1,10 +1,10 @@
 -- What holds of every history: lawful edits, each after all that its clock covers.
-use Rattle.std.proofs.Common.{◌≡◌, ℕ, zero, suc, ◌+◌, ◌≤◌, Bool, true, false, eqb, leb, ◌⊎◌, List, [], ◌∷◌, ◌++◌, sym, refl, ap, ◌∙◌, subst, inl, inr, arith, eq-eqb, ne_eqb, eqb-true, leb-false, leb-true}
-use Rattle.std.proofs.lemmas.Bool.{cases_Bool, eqb-false}
+use Rattle.std.proofs.Common.{◌≡◌, ℕ, zero, suc, ◌+◌, ◌<◌, ◌≤◌, Bool, ◌⊎◌, List, [], ◌∷◌, ◌++◌, sym, refl, ap, ◌∙◌, subst, inl, inr, arith, eq-eqb, ne_eqb}
+use Rattle.std.proofs.lemmas.Bool.{cases_eq, cases_lt}
 use Rattle.std.proofs.lemmas.List.{map_push}
 use Rattle.edits.specs.declared.id.Id.{Id}
 use Rattle.order.specs.Lists.{◌∈◌, ◌∉◌, ◌⊆◌}
-use Rattle.order.specs.Edits.{Edit, Covers, Lawful}
+use Rattle.order.specs.Edits.{Clock, Edit, Covers, Lawful}
 use Rattle.order.specs.Forests.{Forest, nil, apply, grown, tree}
 use Rattle.order.specs.Histories.{edit_id, edit_ids, count, Next, History, empty, more}
 use Rattle.order.proofs.Ids.{id_eq}
@@ -88,45 +88,41 @@ module _ {E : Type 0} where
     pub within : (a : Id) → a ∈ edit_ids h → Covers (count h) a
     pub full : (a : Id) → Covers (count h) a → a ∈ edit_ids h
 
-  pub next_number : {h : List (Edit E)} → Counted h → (e : Edit E) → Lawful e → Next h e → e.id.number ≡ suc (count h e.id.editor)
-  next_number {h} C e l n = let own = l.own in go own (cases_Bool (leb e.id.number (count h e.id.editor)))
+  -- a clock whose edits are all there counts no more
+  pub clock_within : {h : List (Edit E)} → Counted h → (clock : Clock) → ((a : Id) → Covers clock a → a ∈ edit_ids h) → (editor : ℕ) → clock editor ≤ count h editor
+  clock_within {h} C clock all editor = go (clock editor) refl
     where
-      last : (c : ℕ) → e.clock e.id.editor ≡ c → c ≤ count h e.id.editor
-      last zero p = omega arith
-      last (suc c) p = let a : Id = record { editor = e.id.editor; number = suc c } in (C.within a (n.covered a (omega arith))).1
+      go : (c : ℕ) → clock editor ≡ c → c ≤ count h editor
+      go zero p = omega arith
+      go (suc c) p = let a : Id = record { editor = editor; number = suc c } in (C.within a (all a (omega arith))).1
 
-      low : e.clock e.id.editor ≤ count h e.id.editor
-      low = last (e.clock e.id.editor) refl
-
-      go : suc (e.clock e.id.editor) ≡ e.id.number
-          → (leb e.id.number (count h e.id.editor) ≡ true) ⊎ (leb e.id.number (count h e.id.editor) ≡ false)
-          → e.id.number ≡ suc (count h e.id.editor)
-      go own (inl t) = absurd (n.new (C.full e.id (omega arith, leb-true e.id.number (count h e.id.editor) t)))
-      go own (inr t) = omega (arith, leb-false e.id.number (count h e.id.editor) t, low)
+  pub next_number : {h : List (Edit E)} → Counted h → (e : Edit E) → Lawful e → Next h e → e.id.number ≡ suc (count h e.id.editor)
+  next_number {h} C e l n = elim (cases_lt (count h e.id.editor) e.id.number) [
+    | inl gt ↦ omega (arith, l.own, clock_within C e.clock n.covered e.id.editor)
+    | inr le ↦ absurd (n.new (C.full e.id (omega (arith, l.own), le)))
+  ]
 
   counted_more : {h : List (Edit E)} → Counted h → (e : Edit E) → e.id.number ≡ suc (count h e.id.editor) → Counted (h ++ (e ∷ []))
-  counted_more {h} C e num = record { within = λ a m. low a (ids_snoc h e m); full = λ a c. high a c (cases_Bool (eqb e.id.editor a.editor)) }
+  counted_more {h} C e num = record { within = λ a m. low a (ids_snoc h e m); full = λ a c. high a c (cases_eq e.id.editor a.editor) }
     where
       low : (a : Id) → (a ∈ edit_ids h) ⊎ (a ≡ e.id) → Covers (count (h ++ (e ∷ []))) a
       low a (inl m) = omega (arith, C.within a m, count_grows h e a.editor)
       low a (inr p) = subst (Covers (count (h ++ (e ∷ [])))) (sym p) (omega (arith, count_own h e))
 
       last : (a : Id) → Covers (count (h ++ (e ∷ []))) a → e.id.editor ≡ a.editor
-          → (leb a.number (count h a.editor) ≡ true) ⊎ (leb a.number (count h a.editor) ≡ false) → a ∈ edit_ids (h ++ (e ∷ []))
-      last a c p (inl t) = ids_old h e (C.full a (c.0, leb-true a.number (count h a.editor) t))
-      last a c p (inr t) = subst (λ (b : Id). b ∈ edit_ids (h ++ (e ∷ []))) (id_eq e.id a p same_number) (in_ids (h ++ (e ∷ [])) (in_last h e))
+          → (count h a.editor < a.number) ⊎ (a.number ≤ count h a.editor) → a ∈ edit_ids (h ++ (e ∷ []))
+      last a c p (inr le) = ids_old h e (C.full a (c.0, le))
+      last a c p (inl gt) = subst (λ (b : Id). b ∈ edit_ids (h ++ (e ∷ []))) (id_eq e.id a p same_number) (in_ids (h ++ (e ∷ [])) (in_last h e))
         where
           same_number : e.id.number ≡ a.number
-          same_number = let gt = leb-false a.number (count h a.editor) t in
-              let o = count_own h e in
+          same_number = let o = count_own h e in
               let c₁ : count (h ++ (e ∷ [])) e.id.editor ≡ count (h ++ (e ∷ [])) a.editor = ap (count (h ++ (e ∷ []))) p in
               let c₂ : count h e.id.editor ≡ count h a.editor = ap (count h) p in
               omega arith
 
-      high : (a : Id) → Covers (count (h ++ (e ∷ []))) a → (eqb e.id.editor a.editor ≡ true) ⊎ (eqb e.id.editor a.editor ≡ false)
-          → a ∈ edit_ids (h ++ (e ∷ []))
-      high a c (inl t) = last a c (eqb-true e.id.editor a.editor t) (cases_Bool (leb a.number (count h a.editor)))
-      high a c (inr t) = ids_old h e (C.full a (c.0, subst (λ (n : ℕ). a.number ≤ n) (count_other h e a.editor (eqb-false e.id.editor a.editor t)) c.1))
+      high : (a : Id) → Covers (count (h ++ (e ∷ []))) a → (e.id.editor ≡ a.editor) ⊎ (e.id.editor ≡ a.editor → ⊥) → a ∈ edit_ids (h ++ (e ∷ []))
+      high a c (inl p) = last a c p (cases_lt (count h a.editor) a.number)
+      high a c (inr ne) = ids_old h e (C.full a (c.0, omega (arith, c.1, count_other h e a.editor ne)))
 
   pub counted : {h : List (Edit E)} → History h → Counted h
   counted empty = record { within = λ a m. elim m [ ]; full = λ a c. absurd (none a c.0 c.1) }
@@ -137,8 +133,4 @@ module _ {E : Type 0} where
 
   -- a part of a history counts no more
   pub count_part : {h k : List (Edit E)} → Counted h → Counted k → edit_ids h ⊆ edit_ids k → (editor : ℕ) → count h editor ≤ count k editor
-  count_part {h} {k} C D sub editor = go (count h editor) refl
-    where
-      go : (c : ℕ) → count h editor ≡ c → c ≤ count k editor
-      go zero p = omega arith
-      go (suc c) p = let a : Id = record { editor = editor; number = suc c } in (D.within a (sub a (C.full a (omega arith)))).1
+  count_part {h} {k} C D sub = clock_within D (count h) (λ a c. sub a (C.full a c))

@@ -1,7 +1,7 @@
 -- One replica, given any edits: its document is the tree of exactly the applied edits.
-use Rattle.std.proofs.Common.{◌≡◌, ℕ, zero, suc, ◌+◌, ◌<◌, ◌≤◌, Bool, true, false, eqb, ltb, leb, ◌⊎◌, List, [], ◌∷◌, ◌++◌, length, Some, None, Option, sym, refl, ap, ◌∙◌, subst, inl, inr, arith, ltb-false, eqb-true, leb-false}
+use Rattle.std.proofs.Common.{◌≡◌, ℕ, zero, suc, ◌+◌, ◌<◌, ◌≤◌, Bool, false, ltb, leb, ◌⊎◌, List, [], ◌∷◌, ◌++◌, length, Some, None, Option, sym, refl, ap, ◌∙◌, subst, inl, inr, arith, ltb-false, leb-false}
 use Rattle.std.proofs.lemmas.List.{length_push}
-use Rattle.std.proofs.lemmas.Bool.{both_ways, cases_Bool, eqb-false}
+use Rattle.std.proofs.lemmas.Bool.{cases_eq, both_ways}
 use Rattle.std.proofs.Math.Path.{fun_ext}
 use Rattle.edits.specs.declared.id.Id.{Id}
 use Rattle.edits.specs.declared.fault.Fault.{Fault}
@@ -30,18 +30,15 @@ total_same (suc n) h e l = omega (arith, total_same n h e (omega arith), count_o
 total_more : {E : Type 0} (n : ℕ) (h : List (Edit E)) (e : Edit E) → 1 ≤ e.id.editor → e.id.editor ≤ n → total n (count (h ++ (e ∷ []))) ≡ suc (total n (count h))
 unfolding total
 total_more zero h e l u = absurd (omega arith)
-total_more (suc n) h e l u = go (cases_Bool (eqb e.id.editor (suc n))) (total_more n h e l)
+total_more (suc n) h e l u = go (cases_eq e.id.editor (suc n)) (total_more n h e l)
   where
-    go : (eqb e.id.editor (suc n) ≡ true) ⊎ (eqb e.id.editor (suc n) ≡ false)
+    go : (e.id.editor ≡ suc n) ⊎ (e.id.editor ≡ suc n → ⊥)
         → (e.id.editor ≤ n → total n (count (h ++ (e ∷ []))) ≡ suc (total n (count h)))
         → count (h ++ (e ∷ [])) (suc n) + total n (count (h ++ (e ∷ []))) ≡ suc (count h (suc n) + total n (count h))
-    go (inl t) ih = let p = eqb-true e.id.editor (suc n) t in
+    go (inl p) ih =
         let o : count (h ++ (e ∷ [])) (suc n) ≡ suc (count h (suc n)) = subst (λ (j : ℕ). count (h ++ (e ∷ [])) j ≡ suc (count h j)) p (count_own h e) in
         omega (arith, total_same n h e (omega arith))
-    go (inr t) ih = let ne = eqb-false e.id.editor (suc n) t in
-        let o = count_other h e (suc n) ne in
-        let i = ih (omega arith) in
-        omega arith
+    go (inr ne) ih = omega (arith, count_other h e (suc n) ne, ih (omega arith))
 
 total_none : (n : ℕ) → total n (λ i. 0) ≡ 0
 unfolding total

@@ -1,20 +1,20 @@
 -- What every call at one replica keeps, whatever edits come in.
-use Rattle.std.proofs.Common.{◌≡◌, ℕ, zero, suc, ◌+◌, ◌≤◌, Bool, true, false, eqb, leb, ◌⊎◌, ◌↔◌, List, [], ◌∷◌, ◌++◌, length, sym, refl, ap, ◌∙◌, subst, inl, inr, arith, eqb-true, leb-false}
-use Rattle.std.proofs.lemmas.Bool.{both_ways, cases_Bool, eqb-false, or_parts}
+use Rattle.std.proofs.Common.{◌≡◌, ℕ, zero, suc, ◌+◌, ◌≤◌, Bool, true, false, leb, ◌⊎◌, ◌↔◌, List, [], ◌∷◌, ◌++◌, length, sym, ap, ◌∙◌, subst, inl, inr, arith, leb-false}
+use Rattle.std.proofs.lemmas.Bool.{both_ways, or_parts}
 use Rattle.std.proofs.Math.Logic.{⊎_map}
 use Rattle.std.proofs.Math.Path.{fun_ext}
 use Rattle.std.proofs.lemmas.List.{length_push, length-map, nil_from_length}
 use Rattle.edits.specs.declared.id.Id.{Id}
 use Rattle.edits.specs.declared.edit.Parent.TheVariants as parent
 use Rattle.edits.specs.Ids.{same}
-use Rattle.order.specs.Lists.{◌∈◌, ◌∉◌, keep, with_at}
+use Rattle.order.specs.Lists.{◌∈◌, ◌∉◌, keep}
 use Rattle.order.specs.Edits.{Clock, Change, insertion, deletion, Edit, Covers, is_insertion}
 use Rattle.order.specs.Forests.{Entry, Forest, read, ids, hide, apply, tree}
 use Rattle.order.specs.Histories.{edit_ids, count, Next, History, more}
 use Rattle.order.proofs.Ids.{eq_same}
-use Rattle.order.proofs.Lists.{any_false, in_left, in_last, each_snoc, sub_snoc, Distinct}
+use Rattle.order.proofs.Lists.{any_false, in_left, in_last, each_snoc, sub_snoc, Distinct, at_each}
 use Rattle.order.proofs.Growing.{Effect, grew_length, effect}
-use Rattle.order.proofs.Histories.{tree_snoc, in_ids, of_ids, ids_snoc, count_own, count_other, counted, next_number}
+use Rattle.order.proofs.Histories.{tree_snoc, in_ids, of_ids, ids_snoc, count_own, count_other, counted, clock_within, next_number}
 use Rattle.order.proofs.Entries.{entries}
 use Rattle.runs.specs.Replicas.{Editor, most_editors, Replica, with_shelf, inserts, waits, is_known, ready, Pick, nothing, picked, pick, applied, go_on, release}
 use Rattle.runs.specs.Promises.{SoundEdit}
@@ -75,12 +75,7 @@ module _ {E : Type 0} where
 
     -- an edit is ready when everything that it covers is applied
     pub covered_ready : (e : Edit E) → ((a : Id) → Covers e.clock a → a ∈ edit_ids log) → ready r e ≡ true
-    covered_ready e all = each_within 255 e.clock r.clock (λ i l u. go i (e.clock i) refl)
-      where
-        go : (i n : ℕ) → e.clock i ≡ n → e.clock i ≤ r.clock i
-        go i zero p = omega arith
-        go i (suc n) p = let a : Id = record { editor = i; number = suc n } in
-            omega (arith, ((counted S.history).within a (all a (omega arith))).1, count_clock i)
+    covered_ready e all = each_within 255 e.clock r.clock (λ i l u. omega (arith, clock_within (counted S.history) e.clock all i, count_clock i))
 
     -- an edit that is not known is neither applied nor waiting
     pub unknown_new : (e : Edit E) → is_known r e.id ≡ false → (e.id ∉ edit_ids log) × (e.id ∉ edit_ids r.shelf)
@@ -105,7 +100,8 @@ module _ {E : Type 0} where
     apply_one e others acc' s n sub apart out same-acc sizes slot few = record {
       history = more e S.history s.lawful n;
       forest = ap (apply before e) S.forest ∙ sym (tree_snoc before log e);
-      clock = fun_ext (λ i. at i (cases_Bool (eqb i e.id.editor)));
+      clock = fun_ext (at_each (λ i k. k ≡ count (log ++ (e ∷ [])) i) r.clock e.id.editor e.id.number
+          (next_number (counted S.history) e s.lawful n ∙ sym (count_own log e)) (λ j ne. count_clock j ∙ sym (count_other log e j (λ p. ne (sym p)))));
       makers = each_snoc (λ (d : Edit E). Editor d.id.editor) log e S.makers s.maker;
       waiting = λ d m. ((S.waiting d (sub d m)).0, λ k. not_there d m (ids_snoc log e k));
       apart = apart;
@@ -118,10 +114,6 @@ module _ {E : Type 0} where
       where
         grown : Effect e.id e.change (read r.forest) (read (apply before e r.forest))
         grown = effect before e.id e.change r.forest (subst (λ (f : Forest E). Distinct (ids f)) (sym S.forest) (entries before S.history).distinct)
-
-        at : (i : ℕ) → (eqb i e.id.editor ≡ true) ⊎ (eqb i e.id.editor ≡ false) → with_at r.clock e.id.editor e.id.number i ≡ count (log ++ (e ∷ [])) i
-        at i (inl t) = rw t (next_number (counted S.history) e s.lawful n ∙ sym (count_own log e) ∙ ap (count (log ++ (e ∷ []))) (sym (eqb-true i e.id.editor t)))
-        at i (inr t) = rw t (count_clock i ∙ sym (count_other log e i (λ p. eqb-false i e.id.editor t (sym p))))
 
         not_there : (d : Edit E) → d ∈ others → (d.id ∈ edit_ids log) ⊎ (d.id ≡ e.id) → ⊥
         not_there d m (inl k) = (S.waiting d (sub d m)).1 k

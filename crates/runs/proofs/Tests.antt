@@ -1,6 +1,6 @@
 -- What the tests of a replica say.
-use Rattle.std.proofs.Common.{◌≡◌, ℕ, zero, suc, ◌+◌, ◌≤◌, Bool, true, false, cond, leb, ◌⊎◌, List, [], ◌∷◌, length, Some, None, Option, refl, ap, subst, inl, inr, arith, le-leb, leb-false, leb-true}
-use Rattle.std.proofs.lemmas.Bool.{cases_Bool, and_parts}
+use Rattle.std.proofs.Common.{◌≡◌, ℕ, zero, suc, ◌+◌, ◌≤◌, Bool, true, false, cond, leb, ◌⊎◌, List, [], ◌∷◌, length, Some, None, Option, refl, ap, subst, inl, inr, arith, le-leb, leb-true}
+use Rattle.std.proofs.lemmas.Bool.{cases_lt, and_parts}
 use Rattle.std.proofs.Math.Logic.{⊎_map}
 use Rattle.edits.specs.declared.id.Id.{Id}
 use Rattle.edits.specs.declared.fault.Fault.{Fault}
@@ -15,14 +15,10 @@ use Rattle.runs.specs.Replicas.{within, placed, inserts, Verdict, knows, refuses
 pub within_each : (n : ℕ) (a b : Clock) → within n a b ≡ true → (i : ℕ) → 1 ≤ i → i ≤ n → a i ≤ b i
 unfolding within
 within_each zero a b t i l u = absurd (omega arith)
-within_each (suc n) a b t i l u = go (cases_Bool (leb i n)) (within_each n a b)
-  where
-    both : (leb (a (suc n)) (b (suc n)) ≡ true) × (within n a b ≡ true)
-    both = and_parts (leb (a (suc n)) (b (suc n))) (within n a b) t
-
-    go : (leb i n ≡ true) ⊎ (leb i n ≡ false) → (within n a b ≡ true → (j : ℕ) → 1 ≤ j → j ≤ n → a j ≤ b j) → a i ≤ b i
-    go (inl k) ih = ih both.1 i l (leb-true i n k)
-    go (inr k) ih = let gt = leb-false i n k in let last : suc n ≡ i = omega arith in subst (λ (j : ℕ). a j ≤ b j) last (leb-true (a (suc n)) (b (suc n)) both.0)
+within_each (suc n) a b t i l u = let both = and_parts (leb (a (suc n)) (b (suc n))) (within n a b) t in elim (cases_lt n i) [
+  | inl gt ↦ let last : suc n ≡ i = omega arith in subst (λ (j : ℕ). a j ≤ b j) last (leb-true (a (suc n)) (b (suc n)) both.0)
+  | inr le ↦ within_each n a b both.1 i l le
+]
 
 pub each_within : (n : ℕ) (a b : Clock) → ((i : ℕ) → 1 ≤ i → i ≤ n → a i ≤ b i) → within n a b ≡ true
 unfolding within
