@@ -24,16 +24,12 @@ module _ {A : Type 0} where
   in_split (z ∷ xs) ys (here e) = inl (here e)
   in_split (z ∷ xs) ys (there m) = ⊎_map (λ k. there k) (λ k. k) (in_split xs ys m)
 
-  pub in_one : {x y : A} → x ∈ (y ∷ []) → x ≡ y
-  in_one (here e) = e
-  in_one (there m) = elim m [ ]
-
   -- one more at the end
   pub in_last : (xs : List A) (x : A) → x ∈ (xs ++ (x ∷ []))
   in_last xs x = in_right xs (x ∷ []) (here refl)
 
   pub in_snoc : {x : A} (xs : List A) (y : A) → x ∈ (xs ++ (y ∷ [])) → (x ∈ xs) ⊎ (x ≡ y)
-  in_snoc xs y m = ⊎_map (λ k. k) (λ k. in_one k) (in_split xs (y ∷ []) m)
+  in_snoc xs y m = ⊎_map (λ k. k) (λ k. elim k [ here e ↦ e | there n ↦ elim n [ ] ]) (in_split xs (y ∷ []) m)
 
   -- what holds of the elements and of one more, at the end or in front
   pub each_snoc : (P : A → Type 0) (xs : List A) (y : A) → ((x : A) → x ∈ xs → P x) → P y → (x : A) → x ∈ (xs ++ (y ∷ [])) → P x

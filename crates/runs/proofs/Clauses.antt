@@ -57,13 +57,9 @@ module _ {E X : Type 0} {before : Id → Id → Bool} (O : Order before) (meanin
   )
 
   pub send_on : (format : Format X) (h : Channel) (xs : List X) (k : Channel) (rs : List Bytes) (rest : List X) → Sent format h xs k rs rest → SendsOn before meaning format h xs k
-  send_on format h xs k rs rest sent w c run made fit pf ph = goes_on w _ run (sends c xs rest rs k made
-      (subst (λ (f : Format X). AllFit f xs) (sym pf) fit)
-      (subst (λ (f : Format X). Sent f (w.lines c).holds xs k rs rest) (sym pf) (subst (λ (g : Channel). Sent format g xs k rs rest) (sym ph) sent)))
+  send_on format h xs k rs rest sent w c run made fit pf ph = goes_on w _ run (sends c xs rest rs k made (rw pf fit) (rw (pf, ph) sent))
 
   pub fetch_on : (format : Format X) (h : Channel) (r : Replica E) (k : Channel) (intake : Intake E) → Fetched before meaning format h r k intake
       → FetchesOn before meaning format h r k intake
   fetch_on format h r k intake fetched w i c run ed pr pf ph =
-      fetched_on w i c run ed k intake (subst (λ (f : Format X). Fetched before meaning f (w.lines c).holds (w.replicas i) k intake) (sym pf)
-      (subst (λ (g : Channel). Fetched before meaning format g (w.replicas i) k intake) (sym ph)
-      (subst (λ (q : Replica E). Fetched before meaning format h q k intake) (sym pr) fetched)))
+      fetched_on w i c run ed k intake (rw (pf, ph, pr) fetched)

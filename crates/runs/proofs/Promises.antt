@@ -8,7 +8,7 @@ use Rattle.runs.proofs.Calls.{own_is}
 use Rattle.order.specs.Lists.{◌∈◌, here, ◌⊆◌}
 use Rattle.order.specs.Edits.{Clock, Edit, Order, is_insertion}
 use Rattle.order.specs.Forests.{Entry, read, visible, apply, tree}
-use Rattle.order.specs.Histories.{count, stands, as_shown, standing, deletes}
+use Rattle.order.specs.Histories.{count, SameEdits, SameCounts, stands, as_shown, standing, deletes}
 use Rattle.order.specs.Systems.{Making, making_edit, edits_of}
 use Rattle.order.specs.Theorems.{PutAt, HiddenAt}
 use Rattle.order.proofs.Lists.{any_true, keep_alike, any_same, of_map}
@@ -71,14 +71,14 @@ module _ {E X : Type 0} {before : Id → Id → Bool} (O : Order before) (meanin
     λ same. ap visible (S.sound i).forest ∙ A.1 (edits same) ∙ sym (ap visible (S.sound j).forest),
   )
     where
-      A : (((editor : ℕ) → count (S.logs i) editor ≡ count (S.logs j) editor) ↔ ((e : Edit E) → (e ∈ S.logs i) ↔ (e ∈ S.logs j)))
-          × (((e : Edit E) → (e ∈ S.logs i) ↔ (e ∈ S.logs j)) → visible (tree before (S.logs i)) ≡ visible (tree before (S.logs j)))
+      A : (SameCounts (S.logs i) (S.logs j) ↔ SameEdits (S.logs i) (S.logs j))
+          × (SameEdits (S.logs i) (S.logs j) → visible (tree before (S.logs i)) ≡ visible (tree before (S.logs j)))
       A = systems.agreement F O i j
 
-      counts : SameClocks w i j → (editor : ℕ) → count (S.logs i) editor ≡ count (S.logs j) editor
+      counts : SameClocks w i j → SameCounts (S.logs i) (S.logs j)
       counts same editor = sym (clock_at i editor) ∙ same editor ∙ clock_at j editor
 
-      edits : SameApplied w i j → (e : Edit E) → (e ∈ S.logs i) ↔ (e ∈ S.logs j)
+      edits : SameApplied w i j → SameEdits (S.logs i) (S.logs j)
       edits same e = ((λ m. to_log j ((same e).0 (of_log i e m))), λ m. to_log i ((same e).1 (of_log j e m)))
 
   -- the members of a log that holds exactly the applied edits are those of any other

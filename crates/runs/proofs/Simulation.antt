@@ -105,14 +105,10 @@ module _ {E X : Type 0} (before : Id → Id → Bool) (meaning : X → Edit E) w
   fresh_sim : (w : World E X) → Fresh w → Sim w
   fresh_sim w f = record {
     logs = λ i. [];
-    reached = subst (λ (ms : List (Making E)). Reached before ms (λ i. [])) (sym f.none_made) begin;
-    sound = λ i. subst (λ (r : Replica E). Sound before r (w.accepted i) []) (sym (f.replicas i).2)
-        (subst (λ (acc : List (Edit E)). Sound before (new (Some i) (f.replicas i).0 (f.replicas i).1) acc []) (sym (f.none_accepted i))
-        (new_sound before (Some i) (f.replicas i).0 (f.replicas i).1));
-    settled = λ i. subst Settled (sym (f.replicas i).2) (λ e m. elim m [ ]);
-    roster = λ i. subst (λ (r : Replica E). Rostered r (w.accepted i)) (sym (f.replicas i).2)
-        (subst (λ (acc : List (Edit E)). Rostered (new (Some i) (f.replicas i).0 (f.replicas i).1) acc) (sym (f.none_accepted i))
-        (new_rostered (Some i) (f.replicas i).0 (f.replicas i).1));
+    reached = rw f.none_made begin;
+    sound = λ i. rw ((f.replicas i).2, f.none_accepted i) (new_sound before (Some i) (f.replicas i).0 (f.replicas i).1);
+    settled = λ i. rw (f.replicas i).2 (λ e m. elim m [ ]);
+    roster = λ i. rw ((f.replicas i).2, f.none_accepted i) (new_rostered (Some i) (f.replicas i).0 (f.replicas i).1);
     owner = λ i. ap (λ (r : Replica E). r.editor) (f.replicas i).2;
     honest = λ i e m. elim (subst (λ (l : List (Edit E)). e ∈ l) (f.none_accepted i) m) [ ];
     edits = λ e m. elim (subst (λ (ms : List (Making E)). e ∈ edits_of ms) f.none_made m) [ ];
