@@ -23,8 +23,8 @@ first_some (x ∷ xs) ys m = (x, refl, here refl)
 
 pub none_before_first : (xs : List Id) → Distinct xs → {a : Id} → first xs ≡ Some a → (k : Id) → Before xs k a → ⊥
 none_before_first [] d e k b = absurd b
-none_before_first (x ∷ xs) d e k (inl b) = d.0 (subst (λ (c : Id). c ∈ xs) (sym (same_Some _ _ e)) b.1)
-none_before_first (x ∷ xs) d {a} e k (inr b) = d.0 (subst (λ (c : Id). c ∈ xs) (sym (same_Some _ _ e)) (before_right xs k a b))
+none_before_first (x ∷ xs) d e k (inl b) = d.0 (rw (same_Some _ _ e) b.1)
+none_before_first (x ∷ xs) d {a} e k (inr b) = d.0 (rw (same_Some _ _ e) (before_right xs k a b))
 
 -- what stands right after another
 pub after_in : (b : Id) (xs : List Id) {a : Id} → after b xs ≡ Some a → a ∈ xs
@@ -45,8 +45,8 @@ none_between_after b (x ∷ xs) d {a} e k p q = go (compare x b) p q (none_betwe
   where
     go : ((same x b ≡ true) × (x ≡ b)) ⊎ ((same x b ≡ false) × (x ≡ b → ⊥)) → Before (x ∷ xs) b k → Before (x ∷ xs) k a
         → (after b xs ≡ Some a → (j : Id) → Before xs b j → Before xs j a → ⊥) → ⊥
-    go t (inl u) (inl v) ih = d.0 (subst (λ (c : Id). c ∈ xs) (sym v.0) u.1)
-    go t (inr u) (inl v) ih = d.0 (subst (λ (c : Id). c ∈ xs) (sym v.0) (before_right xs b k u))
+    go t (inl u) (inl v) ih = d.0 (rw v.0 u.1)
+    go t (inr u) (inl v) ih = d.0 (rw v.0 (before_right xs b k u))
     go (inl t) u (inr v) ih = none_before_first xs d.1 (rw t.0 at e) k v
     go (inr t) (inl u) (inr v) ih = t.1 u.0
     go (inr t) (inr u) (inr v) ih = ih (rw t.0 at e) k u v

@@ -83,19 +83,19 @@ module _ {E : Type 0} where
   below_it x l r n A s a (inr (inr (inr u))) = absurd (A.it_nexts (under_of s x.id n a u))
 
   below_lefts : (x : Entry E) (l r n : Forest E) → Apart x l r n → (s : Side) (b a : Id) → b ∈ ids l → Under s b (node x l r n) a → Under s b l a
-  below_lefts x l r n A s b a m (inl u) = absurd (A.it_lefts (subst (λ (c : Id). c ∈ ids l) (sym u.0) m))
+  below_lefts x l r n A s b a m (inl u) = absurd (A.it_lefts (rw u.0 m))
   below_lefts x l r n A s b a m (inr (inl u)) = u
   below_lefts x l r n A s b a m (inr (inr (inl u))) = absurd (A.lefts_rights m (under_of s b r a u))
   below_lefts x l r n A s b a m (inr (inr (inr u))) = absurd (A.lefts_nexts m (under_of s b n a u))
 
   below_rights : (x : Entry E) (l r n : Forest E) → Apart x l r n → (s : Side) (b a : Id) → b ∈ ids r → Under s b (node x l r n) a → Under s b r a
-  below_rights x l r n A s b a m (inl u) = absurd (A.it_rights (subst (λ (c : Id). c ∈ ids r) (sym u.0) m))
+  below_rights x l r n A s b a m (inl u) = absurd (A.it_rights (rw u.0 m))
   below_rights x l r n A s b a m (inr (inl u)) = absurd (A.lefts_rights (under_of s b l a u) m)
   below_rights x l r n A s b a m (inr (inr (inl u))) = u
   below_rights x l r n A s b a m (inr (inr (inr u))) = absurd (A.rights_nexts m (under_of s b n a u))
 
   below_nexts : (x : Entry E) (l r n : Forest E) → Apart x l r n → (s : Side) (b a : Id) → b ∈ ids n → Under s b (node x l r n) a → Under s b n a
-  below_nexts x l r n A s b a m (inl u) = absurd (A.it_nexts (subst (λ (c : Id). c ∈ ids n) (sym u.0) m))
+  below_nexts x l r n A s b a m (inl u) = absurd (A.it_nexts (rw u.0 m))
   below_nexts x l r n A s b a m (inr (inl u)) = absurd (A.lefts_nexts (under_of s b l a u) m)
   below_nexts x l r n A s b a m (inr (inr (inl u))) = absurd (A.rights_nexts (under_of s b r a u) m)
   below_nexts x l r n A s b a m (inr (inr (inr u))) = u
@@ -168,7 +168,7 @@ module _ {E : Type 0} where
       Step f = Distinct (ids f) → b ∈ ids f → Found s b f
 
       go : Apart x l r n → Place b x l r n → Step l → Step r → Step n → Found s b (node x l r n)
-      go A (it e) L R N = subst (λ (c : Id). Found s c (node x l r n)) (sym e) (own s A)
+      go A (it e) L R N = rw e (own s A)
       go A (lefts k) L R N = found_within s b (node x l r n) l [] (x.id ∷ (ids r ++ ids n)) (ids_node x l r n)
           (λ a u. below_lefts x l r n A s b a k u) (λ a u. inr (inl u)) (L A.in_lefts k)
       go A (rights k) L R N = found_within s b (node x l r n) r (ids l ++ (x.id ∷ [])) (ids n)
@@ -180,7 +180,7 @@ module _ {E : Type 0} where
           (λ a u. below_nexts x l r n A s b a k u) (λ a u. inr (inr (inr u))) (N A.in_nexts k)
 
   pub under_aside : (s : Side) (b : Id) (f : Forest E) → Distinct (ids f) → (a : Id) → Under s b f a → Aside s (ids f) b a
-  under_aside s b f d a u = subst (λ (zs : List Id). Aside s zs b a) (sym F.reads) (block_aside s b F.ahead F.kids F.behind a (F.is_kid a u))
+  under_aside s b f d a u = rw F.reads (block_aside s b F.ahead F.kids F.behind a (F.is_kid a u))
     where
       F : Found s b f
       F = found s b f d (under_of s b f a u)

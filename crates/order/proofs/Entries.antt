@@ -87,7 +87,7 @@ module _ {E : Type 0} where
         where
           go : (y ∈ read f) ⊎ (y ≡ fresh e.id x) → Good y
           go (inl k) = old keeps y k
-          go (inr r) = subst Good (sym r) added
+          go (inr r) = rw r added
 
     good : (c : Change E) → e.change ≡ c → (ys : List (Entry E)) → Effect e.id c (read f) ys → (y : Entry E) → y ∈ ys → Good y
     unfolding Good f
@@ -106,12 +106,12 @@ module _ {E : Type 0} where
 
     target : (c : Change E) → Refers e.clock c → (a : Id) → deletes c a ≡ true → a ∈ edit_ids h
     target (insertion p s x) r a t = absurd (false≢true t)
-    target (deletion u) r a t = subst (λ (b : Id). b ∈ edit_ids h) (sym (same_eq a u t)) (n.covered u r)
+    target (deletion u) r a t = rw (same_eq a u t) (n.covered u r)
 
     entries_more : Entries before (h ++ (e ∷ []))
     unfolding f Good
     entries_more = record {
-      distinct = subst (λ (g : Forest E). Distinct (ids g)) (sym (tree_snoc before h e)) (effect_distinct e.id e.change (read f) _ F new S.distinct);
+      distinct = rw (tree_snoc before h e) (effect_distinct e.id e.change (read f) _ F new S.distinct);
       inserted = λ y m. (all y m).0;
       shown = λ y m. (all y m).1;
       marked = λ a t. mark a (or_cases (deleted h a) (deletes e.change a) (sym (deleted_snoc h e a) ∙ t));

@@ -128,9 +128,9 @@ module _ {E : Type 0} where
   pub effect_distinct : (a : Id) (c : Change E) (xs ys : List (Entry E)) → Effect a c xs ys → a ∉ map entry_id xs → Distinct (map entry_id xs)
       → Distinct (map entry_id ys)
   effect_distinct a (insertion parent.Start s x) xs ys g new d = grew_distinct (grew_map entry_id g) new d
-  effect_distinct a (insertion (parent.Entry p) s x) xs ys (inl h) new d = subst (λ (zs : List (Entry E)). Distinct (map entry_id zs)) (sym h.0) d
+  effect_distinct a (insertion (parent.Entry p) s x) xs ys (inl h) new d = rw h.0 d
   effect_distinct a (insertion (parent.Entry p) s x) xs ys (inr h) new d = grew_distinct (grew_map entry_id h.0) new d
-  effect_distinct a (deletion t) xs ys h new d = subst Distinct (sym (ap (map entry_id) h ∙ map-map entry_id (hide t) xs)) d
+  effect_distinct a (deletion t) xs ys h new d = rw (ap (map entry_id) h ∙ map-map entry_id (hide t) xs) d
 
   -- no identifier but that of the edit is new
   pub effect_ids : (a : Id) (c : Change E) (xs ys : List (Entry E)) → Effect a c xs ys → (b : Id) → b ∈ map entry_id ys → (b ∈ map entry_id xs) ⊎ (b ≡ a)

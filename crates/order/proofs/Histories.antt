@@ -63,7 +63,7 @@ module _ {E : Type 0} where
   in_part {h} {k} H sub d m i = let u = of_ids k i in subst (λ (c : Edit E). c ∈ k) (one_each H u.0 d (sub u.0 u.1) m u.2) u.1
 
   pub distinct_ids_snoc : (h : List (Edit E)) (e : Edit E) → Distinct (edit_ids h) → e.id ∉ edit_ids h → Distinct (edit_ids (h ++ (e ∷ [])))
-  distinct_ids_snoc h e d new = subst Distinct (sym (map_push edit_id h e)) (distinct_snoc (edit_ids h) e.id d new)
+  distinct_ids_snoc h e d new = rw (map_push edit_id h e) (distinct_snoc (edit_ids h) e.id d new)
 
   -- counting
   count_append : (h k : List (Edit E)) (editor : ℕ) → count (h ++ k) editor ≡ count h editor + count k editor
@@ -107,7 +107,7 @@ module _ {E : Type 0} where
     where
       low : (a : Id) → (a ∈ edit_ids h) ⊎ (a ≡ e.id) → Covers (count (h ++ (e ∷ []))) a
       low a (inl m) = omega (arith, C.within a m, count_grows h e a.editor)
-      low a (inr p) = subst (Covers (count (h ++ (e ∷ [])))) (sym p) (omega (arith, count_own h e))
+      low a (inr p) = rw p (omega (arith, count_own h e))
 
       last : (a : Id) → Covers (count (h ++ (e ∷ []))) a → e.id.editor ≡ a.editor
           → (count h a.editor < a.number) ⊎ (a.number ≤ count h a.editor) → a ∈ edit_ids (h ++ (e ∷ []))

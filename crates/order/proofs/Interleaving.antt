@@ -7,7 +7,7 @@ use Rattle.edits.specs.declared.edit.Side.TheVariants.{Left, Right}
 use Rattle.edits.specs.declared.edit.Parent.{Parent}
 use Rattle.edits.specs.declared.edit.Parent.TheVariants.{Entry}
 use Rattle.order.specs.Lists.{◌∈◌, here, there, ◌⊆◌, Before}
-use Rattle.order.specs.Edits.{Clock, Order, Change, insertion, Edit, Covers, Refers, is_insertion}
+use Rattle.order.specs.Edits.{Order, Change, insertion, Edit, Covers, Refers, is_insertion}
 use Rattle.order.specs.Forests.{Forest, ids, change, apply, grown, tree}
 use Rattle.order.specs.Placing.{after, follower, has_right, has_right_child, hung, insertion_after}
 use Rattle.order.specs.Histories.{edit_id, History, empty, more}
@@ -34,7 +34,7 @@ module _ {E : Type 0} (before : Id → Id → Bool) where
   -- it holds in the tree of a history if it holds in that of a part
   part_keeps : Order before → (P : Forest E → Type 0) → Stays P → {h k : List (Edit E)} → History h → History k → h ⊆ k
       → P (tree before h) → P (tree before k)
-  part_keeps O P stays {h} {k} H K sub p = subst P (sym (tree_from_part H O K sub)) (grown_keeps P stays (rest_of h k) (tree before h) p)
+  part_keeps O P stays {h} {k} H K sub p = rw (tree_from_part H O K sub) (grown_keeps P stays (rest_of h k) (tree before h) p)
 
 module _ {E : Type 0} {before : Id → Id → Bool} (O : Order before) {ms : List (Making E)} {hs : ℕ → List (Edit E)} (F : Facts before ms hs) where
   -- the tree of all that was made
@@ -53,7 +53,7 @@ module _ {E : Type 0} {before : Id → Id → Bool} (O : Order before) {ms : Lis
     since : (P : Forest E → Type 0) → Stays before P → {j : List (Edit E)} → History j → known ⊆ j → m.edit ∈ j
         → P (apply before m.edit seen) → P (tree before j)
     since P stays {j} J sub i p = part_keeps before O P stays (more m.edit M.history M.lawful M.next) J
-        (sub_snoc sub i) (subst P (sym (tree_snoc before known m.edit)) p)
+        (sub_snoc sub i) (rw (tree_snoc before known m.edit) p)
       where
         M : Made before (edits_of ms) m
         M = F.made m k
@@ -124,7 +124,7 @@ module _ {E : Type 0} {before : Id → Id → Bool} (O : Order before) {ms : Lis
       -- the maker of n had applied all that the maker of m had
       all_known : M.known ⊆ N.known
       all_known d k = in_part F.all N.part d (M.part d k) (covered_in N.history m.edit m_known d.id
-          (subst (λ (c : Clock). Covers c d.id) (sym M.clock) ((counted M.history).within d.id (in_ids M.known k))))
+          (rw M.clock ((counted M.history).within d.id (in_ids M.known k))))
 
       right_child : has_right_child n.left (seen n j) ≡ true
       right_child = subst (λ (l : Parent). has_right_child l (seen n j) ≡ true) (sym same_left)
@@ -171,7 +171,7 @@ module _ {E : Type 0} {before : Id → Id → Bool} (O : Order before) {ms : Lis
       covers : (p : Id) → Covers m.edit.clock p → (p ≡ b) ⊎ Under s b (tree before h) p → Earlier → Covers m.edit.clock b
       covers p c (inl q) ih = subst (Covers m.edit.clock) q c
       covers p c (inr v) ih = let k = ih p v in
-          closed F m made.1 k.0.edit (in_map making_edit ms k.1) (subst (Covers m.edit.clock) (sym k.2) c) b k.4
+          closed F m made.1 k.0.edit (in_map making_edit ms k.1) (rw k.2 c) b k.4
 
       go : (Under s b (tree before h) y)
           ⊎ ((y ≡ e.id) × (p : Id) × (t : Side) × (x : E) × (e.change ≡ insertion (Entry p) t x) × ((p ≡ b) ⊎ Under s b (tree before h) p))
@@ -182,7 +182,7 @@ module _ {E : Type 0} {before : Id → Id → Bool} (O : Order before) {ms : Lis
         made.1,
         ap edit_id made.2 ∙ sym v.0,
         ap (λ (d : Edit E). is_insertion d.change) made.2 ∙ ap is_insertion v.4,
-        covers v.1 (subst (λ (d : Edit E). Covers d.clock v.1) (sym made.2) (subst (Refers e.clock) v.4 l.refers)) v.5 ih,
+        covers v.1 (rw made.2 (subst (Refers e.clock) v.4 l.refers)) v.5 ih,
       )
 
   -- between two entries of a run all of which is below its first, on one side

@@ -33,10 +33,10 @@ module _ {A : Type 0} where
 
   -- what holds of the elements and of one more, at the end or in front
   pub each_snoc : (P : A → Type 0) (xs : List A) (y : A) → ((x : A) → x ∈ xs → P x) → P y → (x : A) → x ∈ (xs ++ (y ∷ [])) → P x
-  each_snoc P xs y all last x m = elim (in_snoc xs y m) [ inl k ↦ all x k | inr e ↦ subst P (sym e) last ]
+  each_snoc P xs y all last x m = elim (in_snoc xs y m) [ inl k ↦ all x k | inr e ↦ rw e last ]
 
   pub each_cons : (P : A → Type 0) (y : A) (ys : List A) → P y → ((x : A) → x ∈ ys → P x) → (x : A) → x ∈ (y ∷ ys) → P x
-  each_cons P y ys first all x (here e) = subst P (sym e) first
+  each_cons P y ys first all x (here e) = rw e first
   each_cons P y ys first all x (there m) = all x m
 
   pub sub_snoc : {xs zs : List A} {y : A} → xs ⊆ zs → y ∈ zs → (xs ++ (y ∷ [])) ⊆ zs
@@ -169,9 +169,9 @@ module _ {A : Type 0} where
 
   pub before_once : (xs : List A) → Distinct xs → (x y : A) → Before xs x y → Before xs y x → ⊥
   before_once [] d x y b c = absurd b
-  before_once (z ∷ xs) d x y (inl b) (inl c) = d.0 (subst (λ (w : A). w ∈ xs) (sym c.0) b.1)
-  before_once (z ∷ xs) d x y (inl b) (inr c) = d.0 (subst (λ (w : A). w ∈ xs) (sym b.0) (before_right xs y x c))
-  before_once (z ∷ xs) d x y (inr b) (inl c) = d.0 (subst (λ (w : A). w ∈ xs) (sym c.0) (before_right xs x y b))
+  before_once (z ∷ xs) d x y (inl b) (inl c) = d.0 (rw c.0 b.1)
+  before_once (z ∷ xs) d x y (inl b) (inr c) = d.0 (rw b.0 (before_right xs y x c))
+  before_once (z ∷ xs) d x y (inr b) (inl c) = d.0 (rw c.0 (before_right xs x y b))
   before_once (z ∷ xs) d x y (inr b) (inr c) = before_once xs d.1 x y b c
 
 module _ {A B : Type 0} (f : A → B) where
@@ -200,7 +200,7 @@ module _ {A B : Type 0} (f : A → B) where
 
 -- what is not in a list is none of its elements
 pub none_of : (x : Id) (xs : List Id) → x ∉ xs → (a : Id) → a ∈ xs → same x a ≡ false
-none_of x xs no-x a m = same_apart x a (λ p. no-x (subst (λ (c : Id). c ∈ xs) (sym p) m))
+none_of x xs no-x a m = same_apart x a (λ p. no-x (rw p m))
 
 -- whether an identifier is in a list
 pub is_in : List Id → Id → Bool
@@ -224,4 +224,4 @@ module _ {X : Type 0} where
 
   -- what holds of the new value and of the others
   pub at_each : (P : ℕ → X → Type 0) (f : ℕ → X) (i : ℕ) (x : X) → P i x → ((j : ℕ) → (j ≡ i → ⊥) → P j (f j)) → (j : ℕ) → P j (with_at f i x j)
-  at_each P f i x it others j = cond_both (eqb j i) x (f j) (P j) (λ t. subst (λ (n : ℕ). P n x) (sym (eqb-true j i t)) it) (λ t. others j (eqb-false j i t))
+  at_each P f i x it others j = cond_both (eqb j i) x (f j) (P j) (λ t. rw (eqb-true j i t) it) (λ t. others j (eqb-false j i t))

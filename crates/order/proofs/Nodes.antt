@@ -33,7 +33,7 @@ module _ {E : Type 0} where
       go (inr (there k)) = end (in_split (ids r) (ids n) k)
 
   pub placed : {a : Id} (x : Entry E) (l r n : Forest E) → Place a x l r n → a ∈ ids (node x l r n)
-  placed {a} x l r n k = subst (λ (zs : List Id). a ∈ zs) (sym (ids_node x l r n)) (go k)
+  placed {a} x l r n k = rw (ids_node x l r n) (go k)
     where
       go : Place a x l r n → a ∈ (ids l ++ (x.id ∷ (ids r ++ ids n)))
       go (it e) = in_right (ids l) (x.id ∷ (ids r ++ ids n)) (here e)

@@ -19,8 +19,8 @@ module _ {E : Type 0} where
   named_covered : (clock : Clock) (c : Change E) (a : Id) → Refers clock c → Names c a → Covers clock a
   named_covered clock (insertion parent.Start Left x) a r n = absurd r
   named_covered clock (insertion parent.Start Right x) a r n = absurd n
-  named_covered clock (insertion (parent.Entry p) s x) a r n = subst (Covers clock) (sym n) r
-  named_covered clock (deletion t) a r n = subst (Covers clock) (sym n) r
+  named_covered clock (insertion (parent.Entry p) s x) a r n = rw n r
+  named_covered clock (deletion t) a r n = rw n r
 
   other_than : Id → Edit E → Bool
   other_than a d = not (same d.id a)
@@ -57,7 +57,7 @@ module _ {E : Type 0} where
 
         here_last : d ≡ e → same d.id e.id ≡ true → PutLast before e (k ++ (d ∷ []))
         here_last p t = record {
-          history = subst History (sym gone) K;
+          history = rw gone K;
           same_tree = tree_snoc before k d ∙ ap (λ (c : Edit E). apply before c (tree before k)) p
               ∙ ap (λ (j : List (Edit E)). apply before e (tree before j)) (sym gone);
         }
@@ -67,7 +67,7 @@ module _ {E : Type 0} where
 
         earlier : e ∈ k → same d.id e.id ≡ false → (d.id ≡ e.id → ⊥) → PutLast before e k → PutLast before e (k ++ (d ∷ []))
         earlier i t ne L = record {
-          history = subst History (sym stays) (more d L.history l (record {
+          history = rw stays (more d L.history l (record {
             new = λ u. n.new (ids_sub _ k (λ c j. (of_without e.id k j).0) d.id u);
             covered = λ a c. known a c (of_ids k (n.covered a c));
           }));
@@ -90,7 +90,7 @@ module _ {E : Type 0} where
 
         go : ((same d.id e.id ≡ true) × (d.id ≡ e.id)) ⊎ ((same d.id e.id ≡ false) × (d.id ≡ e.id → ⊥)) → (e ∈ k) ⊎ (e ≡ d)
             → (e ∈ k → ((c : Edit E) → c ∈ k → Covers c.clock e.id → ⊥) → PutLast before e k) → PutLast before e (k ++ (d ∷ []))
-        go (inl q) (inl i) ih = absurd (n.new (subst (λ (a : Id). a ∈ edit_ids k) (sym q.1) (in_ids k i)))
+        go (inl q) (inl i) ih = absurd (n.new (rw q.1 (in_ids k i)))
         go (inl q) (inr i) ih = here_last (sym i) q.0
         go (inr q) (inr i) ih = absurd (q.1 (ap edit_id (sym i)))
         go (inr q) (inl i) ih = earlier i q.0 q.1 (ih i (λ c j. free c (in_left k (d ∷ []) j)))
@@ -125,7 +125,7 @@ module _ {E : Type 0} where
   pub rest_new : (h all : List (Edit E)) (a : Id) → a ∈ edit_ids (rest_of h all) → a ∉ edit_ids h
   unfolding rest_of beyond
   rest_new h all a m i = let u = of_ids (rest_of h all) m in
-      false≢true (sym (ap not (is_in_true (edit_ids h) u.0.id (subst (λ (b : Id). b ∈ edit_ids h) (sym u.2) i))) ∙ (of_keep (beyond h) all u.1).1)
+      false≢true (sym (ap not (is_in_true (edit_ids h) u.0.id (rw u.2 i))) ∙ (of_keep (beyond h) all u.1).1)
 
   pub rest_distinct : (h all : List (Edit E)) → Distinct (edit_ids all) → Distinct (edit_ids (rest_of h all))
   unfolding rest_of
@@ -153,11 +153,11 @@ module _ {E : Type 0} where
 
     pub part_first : {all : List (Edit E)} → History all → History (h ++ rest_of h all)
     unfolding rest_of beyond
-    part_first empty = subst History (sym (append-nil h)) H
+    part_first empty = rw (append-nil h) H
     part_first (more {h = all} e A l n) = go (is_in (edit_ids h) e.id) refl (part_first A)
       where
         go : (b : Bool) → is_in (edit_ids h) e.id ≡ b → History (h ++ rest_of h all) → History (h ++ rest_of h (all ++ (e ∷ [])))
-        go true t ih = subst (λ (r : List (Edit E)). History (h ++ r)) (sym (keep_snoc (beyond h) all e false (ap not t) ∙ append-nil (rest_of h all))) ih
+        go true t ih = rw (keep_snoc (beyond h) all e false (ap not t) ∙ append-nil (rest_of h all)) ih
         go false t ih = subst History
             (append_assoc h (rest_of h all) (e ∷ []) ∙ ap (λ (r : List (Edit E)). h ++ r) (sym (keep_snoc (beyond h) all e true (ap not t))))
             (more e ih l (record { new = λ m. out (of_ids (h ++ rest_of h all) m); covered = λ a c. placed all a (n.covered a c) }))

@@ -58,7 +58,7 @@ module _ {E : Type 0} (before : Id → Id → Bool) where
 
 module _ {E : Type 0} where
   pub edits_more : (ms later : List (Making E)) → edits_of ms ⊆ edits_of (ms ++ later)
-  edits_more ms later e m = subst (λ (l : List (Edit E)). e ∈ l) (sym (map-append making_edit ms later)) (in_left (edits_of ms) (edits_of later) m)
+  edits_more ms later e m = rw (map-append making_edit ms later) (in_left (edits_of ms) (edits_of later) m)
 
 module _ {E : Type 0} {before : Id → Id → Bool} where
   wider : {all : List (Edit E)} (e : Edit E) {m : Making E} → Made before all m → Made before (all ++ (e ∷ [])) m
@@ -76,20 +76,19 @@ module _ {E : Type 0} {before : Id → Id → Bool} where
     -- a replica has all of its own edits
     pub has_own : (i : ℕ) (a : Id) → a.editor ≡ i → a ∈ edit_ids (edits_of ms) → a ∈ edit_ids (hs i)
     has_own i a p m = let c = (counted F.all).within a m in
-        let same : count (hs i) a.editor ≡ count (edits_of ms) a.editor = subst (λ (j : ℕ). count (hs i) j ≡ count (edits_of ms) j) (sym p) (F.own i) in
+        let same : count (hs i) a.editor ≡ count (edits_of ms) a.editor = rw p (F.own i) in
         (counted (F.each i)).full a (c.0, omega arith)
 
     -- one more edit is made at the replica i, by the rules
     made_one : (i : ℕ) (m : Making E) (c : Change E) → m.edit ≡ new_edit i (hs i) c → Made before (edits_of ms) m
         → Facts before (ms ++ (m ∷ [])) (extended hs i m.edit)
     made_one i m c p M = record {
-      all = subst History (sym same) (more e F.all M.lawful next_all);
-      each = at_each (λ j h. History h) hs i _ (more e (F.each i) M.lawful (subst (Next (hs i)) (sym p) (new_next (F.each i) i c))) (λ j ne. F.each j);
+      all = rw same (more e F.all M.lawful next_all);
+      each = at_each (λ j h. History h) hs i _ (more e (F.each i) M.lawful (rw p (new_next (F.each i) i c))) (λ j ne. F.each j);
       part = at_each (λ j h. h ⊆ edits_of (ms ++ (m ∷ []))) hs i _ (sub_snoc (λ d k. edits_more ms (m ∷ []) d (F.part i d k)) (in_map making_edit (ms ++ (m ∷ [])) (in_last ms m)))
           (λ j ne d k. edits_more ms (m ∷ []) d (F.part j d k));
       own = at_each (λ j h. count h j ≡ count (edits_of (ms ++ (m ∷ []))) j) hs i _ own_here own_there;
-      made = subst (λ (l : List (Edit E)). (n : Making E) → n ∈ (ms ++ (m ∷ [])) → Made before l n) (sym same)
-          (each_snoc (Made before (edits_of ms ++ (e ∷ []))) ms m (λ n k. wider e (F.made n k)) (wider e M));
+      made = rw same (each_snoc (Made before (edits_of ms ++ (e ∷ []))) ms m (λ n k. wider e (F.made n k)) (wider e M));
     }
       where
         e : Edit E
@@ -112,7 +111,7 @@ module _ {E : Type 0} {before : Id → Id → Bool} where
 
         own_here : count (hs i ++ (e ∷ [])) i ≡ count (edits_of (ms ++ (m ∷ []))) i
         own_here = subst (λ (j : ℕ). count (hs i ++ (e ∷ [])) j ≡ count (edits_of (ms ++ (m ∷ []))) j) editor
-            (count_own (hs i) e ∙ ap suc (subst (λ (j : ℕ). count (hs i) j ≡ count (edits_of ms) j) (sym editor) (F.own i)) ∙ sym (count_own (edits_of ms) e)
+            (count_own (hs i) e ∙ ap suc (rw editor (F.own i)) ∙ sym (count_own (edits_of ms) e)
             ∙ ap (λ (l : List (Edit E)). count l e.id.editor) (sym same))
 
         own_there : (j : ℕ) → (j ≡ i → ⊥) → count (hs j) j ≡ count (edits_of (ms ++ (m ∷ []))) j
@@ -133,8 +132,7 @@ module _ {E : Type 0} {before : Id → Id → Bool} where
         shown = visible (tree before (hs i))
 
         entry : fresh (insertion_made before i (hs i) k x).edit.id x ∈ visible (tree before (hs i ++ ((insertion_made before i (hs i) k x).edit ∷ [])))
-        entry = subst (λ (ys : List (Forests.Entry E)). fresh (insertion_made before i (hs i) k x).edit.id x ∈ ys) (sym (inserts_at before (F.each i) i k x le))
-            (in_right (take k shown) (fresh (insertion_made before i (hs i) k x).edit.id x ∷ drop k shown) (here refl))
+        entry = rw (inserts_at before (F.each i) i k x le) (in_right (take k shown) (fresh (insertion_made before i (hs i) k x).edit.id x ∷ drop k shown) (here refl))
 
     deletion_is_made : (i k : ℕ) → k < length (visible (tree before (hs i))) → Made before (edits_of ms) (deletion_made before i (hs i) k)
     deletion_is_made i k lt = record {
@@ -171,7 +169,7 @@ module _ {E : Type 0} {before : Id → Id → Bool} where
     -- an edit covers all that an edit covers which it covers
     pub closed : (m : Making E) → m ∈ ms → (d : Edit E) → d ∈ edits_of ms → Covers m.edit.clock d.id
         → (a : Id) → Covers d.clock a → Covers m.edit.clock a
-    closed m k d j c a v = subst (λ (f : ℕ → ℕ). Covers f a) (sym M.clock) ((counted M.history).within a (covered_in M.history d d_known a v))
+    closed m k d j c a v = rw M.clock ((counted M.history).within a (covered_in M.history d d_known a v))
       where
         M : Made before (edits_of ms) m
         M = F.made m k

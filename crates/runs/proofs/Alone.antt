@@ -101,8 +101,7 @@ module _ {E : Type 0} where
       u.0,
       ltb-false (length (visible r.forest)) k u.1,
       subst (λ (v : Making E). PutAt k v.edit.id x r.forest (apply before v.edit r.forest)) (sym (insertion_is S i ed owner k x) ∙ u.0)
-          (subst (λ (f : Forest E). PutAt k (insertion_made before i log k x).edit.id x f (apply before (insertion_made before i log k x).edit f)) (sym S.forest)
-          (ap visible (sym (tree_snoc before log (insertion_made before i log k x).edit)) ∙ inserts_at before S.history i k x le)),
+          (rw S.forest (ap visible (sym (tree_snoc before log (insertion_made before i log k x).edit)) ∙ inserts_at before S.history i k x le)),
     )
       where
         u : (own_insertion k x r ≡ m) × (ltb (length (visible r.forest)) k ≡ false)
@@ -117,8 +116,7 @@ module _ {E : Type 0} where
       u.0,
       leb-false (length (visible r.forest)) k u.1,
       subst (λ (v : Making E). HiddenAt k r.forest (apply before v.edit r.forest)) (sym (deletion_is S i ed owner k) ∙ u.0)
-          (subst (λ (f : Forest E). HiddenAt k f (apply before (deletion_made before i log k).edit f)) (sym S.forest)
-          (ap visible (sym (tree_snoc before log (deletion_made before i log k).edit)) ∙ deletes_at before S.history i k lt)),
+          (rw S.forest (ap visible (sym (tree_snoc before log (deletion_made before i log k).edit)) ∙ deletes_at before S.history i k lt)),
     )
       where
         u : (own_deletion k r ≡ m) × (leb (length (visible r.forest)) k ≡ false)

@@ -106,12 +106,12 @@ module _ {E : Type 0} {before : Id → Id → Bool} where
       back d (inr m) = sub_snoc (λ b k. in_left acc (e ∷ []) ((S.accepted b).1 (inr k))) (in_last acc e) d m
 
   unmoved : {r : Replica E} {acc log : List (Edit E)} → Sound before r acc log → After before log r (acc ++ [])
-  unmoved {r} {acc} {log} S = subst (After before log r) (sym (append-nil acc)) (record { now = log; onward = stays; sound = S })
+  unmoved {r} {acc} {log} S = rw (append-nil acc) (record { now = log; onward = stays; sound = S })
 
   module _ {r : Replica E} {acc log : List (Edit E)} (S : Sound before r acc log) (rest : Settled r) (e : Edit E) (s : SoundEdit e) where
     not_taken : (a : Answer) → ((n : ℕ) → a ≡ taken n → ⊥) → accepted_by a e ≡ [] → Takes before r acc log e (r, a)
     not_taken a no_number none = record {
-      after = subst (λ (l : List (Edit E)). After before log r (acc ++ l)) (sym none) (unmoved S);
+      after = rw none (unmoved S);
       settled = rest;
       grows = λ n q. absurd (no_number n q);
     }
@@ -189,7 +189,7 @@ module _ {E : Type 0} {before : Id → Id → Bool} where
     commits : Settled r → (m : Making E) (c : Change E) → m.edit ≡ new_edit i log c → (used no_index slotless : Bool)
         → (no_index ≡ false → Lawful (new_edit i log c)) → (slotless ≡ false → (inserts m.edit && full r) ≡ false)
         → (o : Option Fault) → Allowed (own_waits r) used no_index slotless o → Edits (commit before o m r)
-    commits rest m c p used no_index slotless lawful free (Some f) a = record { after = subst (λ (l : List (Edit E)). After before l r (acc ++ [])) (sym (append-nil log)) (unmoved S); settled = rest; grows = λ d n q. cc }
+    commits rest m c p used no_index slotless lawful free (Some f) a = record { after = rw (append-nil log) (unmoved S); settled = rest; grows = λ d n q. cc }
     commits rest m c p used no_index slotless lawful free None a = record {
       after = A;
       settled = settles before m.edit r;
@@ -197,8 +197,8 @@ module _ {E : Type 0} {before : Id → Id → Bool} where
     }
       where
         A : After before (log ++ (m.edit ∷ [])) (settled before m.edit r) (acc ++ (m.edit ∷ []))
-        A = settle S m.edit (subst SoundEdit (sym p) (own_sound c (lawful a.2))) (subst (Next log) (sym p) (new_next S.history i c))
-            (subst (λ (e : Edit E). e.id ∉ edit_ids r.shelf) (sym p) (own_new c a.0)) (slot_left r m.edit (free a.3) S.slots)
+        A = settle S m.edit (rw p (own_sound c (lawful a.2))) (rw p (new_next S.history i c))
+            (rw p (own_new c a.0)) (slot_left r m.edit (free a.3) S.slots)
 
     pub insert_edits : Settled r → (k : ℕ) (x : E) → Edits (insert before k x r)
     insert_edits rest k x = commits rest (own_insertion k x r) (insertion_at k x (tree before log)) (ap (λ (m : Making E). m.edit) (insertion_is k x))

@@ -1,10 +1,10 @@
 -- Each call carries its clause: the run goes on through it, and the promises hold there.
-use Rattle.std.proofs.Common.{◌≡◌, ℕ, Bool, List, sym, ap, ◌∙◌, subst, inl, inr, append-nil}
+use Rattle.std.proofs.Common.{◌≡◌, ℕ, Bool, List, ap, ◌∙◌, subst, inl, inr, append-nil}
 use Rattle.edits.specs.declared.id.Id.{Id}
 use Rattle.order.specs.Lists.{with_at}
 use Rattle.order.specs.Edits.{Edit, Order}
 use Rattle.runs.specs.Replicas.{Editor, Replica, insert, delete, Intake}
-use Rattle.runs.specs.Channels.{Channel, Format, AllFit, Sent, Bytes}
+use Rattle.runs.specs.Channels.{Channel, Format, Sent, Bytes}
 use Rattle.runs.specs.Worlds as worlds
 use Rattle.runs.specs.Worlds.{World, after_edit, with_line, after_send, after_fetch, Step, sends, fetches, misreads, finds_none, then, Run}
 use Rattle.runs.specs.Clauses.{GoesOn, untouched, EditsOn, SendsOn, Fetched, FetchesOn}
@@ -37,12 +37,9 @@ module _ {E X : Type 0} {before : Id → Id → Bool} (O : Order before) (meanin
   -- the three ways of a fetch
   fetched_on : (w : World E X) (i c : ℕ) → Run before meaning w → Editor i → (k : Channel) (intake : Intake E)
       → Fetched before meaning (w.lines c).format (w.lines c).holds (w.replicas i) k intake → GoesOn before meaning (after_fetch w i c k intake)
-  fetched_on w i c run ed k intake (inl u) = subst (λ (t : Intake E). GoesOn before meaning (after_fetch w i c k t)) (sym u.2)
-      (subst (GoesOn before meaning) (sym (same_world w i c k ∙ same_send w c k u.1)) (goes_on w w run (finds_none c u.0)))
-  fetched_on w i c run ed k intake (inr (inl u)) = subst (λ (t : Intake E). GoesOn before meaning (after_fetch w i c k t)) (sym u.4)
-      (goes_on w _ run (fetches i c u.0 k u.1 ed u.2 u.3))
-  fetched_on w i c run ed k intake (inr (inr u)) = subst (λ (t : Intake E). GoesOn before meaning (after_fetch w i c k t)) (sym u.3)
-      (subst (GoesOn before meaning) (sym (same_world w i c k)) (goes_on w _ run (misreads c u.0 k u.1 u.2)))
+  fetched_on w i c run ed k intake (inl u) = rw u.2 (rw (same_world w i c k ∙ same_send w c k u.1) (goes_on w w run (finds_none c u.0)))
+  fetched_on w i c run ed k intake (inr (inl u)) = rw u.4 (goes_on w _ run (fetches i c u.0 k u.1 ed u.2 u.3))
+  fetched_on w i c run ed k intake (inr (inr u)) = rw u.3 (rw (same_world w i c k) (goes_on w _ run (misreads c u.0 k u.1 u.2)))
 
   pub insert_on : (k : ℕ) (x : E) (r : Replica E) → EditsOn before meaning r (insert before k x r)
   insert_on k x r w i run ed p = (

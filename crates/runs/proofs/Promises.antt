@@ -1,5 +1,5 @@
 -- The promises hold of every run.
-use Rattle.std.proofs.Common.{◌≡◌, ℕ, zero, suc, ◌-◌, ◌<◌, ◌≤◌, Bool, true, false, not, ◌&&◌, eqb, ◌⊎◌, ◌↔◌, List, [], ◌∷◌, map, length, Some, None, Option, sym, refl, ap, ◌∙◌, subst, inl, inr, arith, eqb-true}
+use Rattle.std.proofs.Common.{◌≡◌, ℕ, zero, suc, ◌-◌, ◌<◌, ◌≤◌, Bool, true, false, not, ◌&&◌, eqb, ◌⊎◌, ◌↔◌, List, [], ◌∷◌, map, length, Some, None, Option, sym, refl, ap, ◌∙◌, inl, inr, arith, eqb-true}
 use Rattle.std.proofs.lemmas.Bool.{both_ways, cases_Bool, false_from_ne_true}
 use Rattle.edits.specs.declared.id.Id.{Id}
 use Rattle.edits.specs.declared.fault.Fault.{Fault}
@@ -112,7 +112,7 @@ module _ {E X : Type 0} {before : Id → Id → Bool} (O : Order before) (meanin
     where
       still : ready (applied before e (w.replicas i)) d ≡ true → (j : ℕ) → 1 ≤ j → j ≤ 255 → (eqb j e.id.editor ≡ true) ⊎ (eqb j e.id.editor ≡ false)
           → d.clock j ≤ (w.replicas i).clock j
-      still t j l u (inl q) = subst (λ (n : ℕ). d.clock n ≤ (w.replicas i).clock n) (sym (eqb-true j e.id.editor q ∙ own)) (made_bound d (S.honest i d (((S.sound i).accepted d).1 (inr m))) i)
+      still t j l u (inl q) = rw (eqb-true j e.id.editor q ∙ own) (made_bound d (S.honest i d (((S.sound i).accepted d).1 (inr m))) i)
       still t j l u (inr q) = rw q at (within_each 255 d.clock (applied before e (w.replicas i)).clock t j l u)
 
   none_released : (i : ℕ) (e : Edit E) → e.id.editor ≡ i → settled before e (w.replicas i) ≡ applied before e (w.replicas i)

@@ -41,14 +41,14 @@ abbrev Joins : ℕ → List ℕ → List ℕ → Type 0
 Joins i js k = (j : ℕ) → (j ∈ k) ↔ ((j ∈ js) ⊎ (j ≡ i))
 
 joins_listed : (i : ℕ) (js : List ℕ) → i ∈ js → Joins i js js
-joins_listed i js m j = ((λ n. inl n), λ n. elim n [ inl a ↦ a | inr p ↦ subst (λ (k : ℕ). k ∈ js) (sym p) m ])
+joins_listed i js m j = ((λ n. inl n), λ n. elim n [ inl a ↦ a | inr p ↦ rw p m ])
 
 module _ {E : Type 0} where
   enrolled_joins : (e : Edit E) (r : Replica E) → Joins e.id.editor r.roster (enrolled e r).roster
   enrolled_joins e r = go (cases_Bool (listed r e.id.editor))
     where
       at : listed r e.id.editor ≡ true → e.id.editor ∈ r.roster
-      at t = let u = any_true (eqb e.id.editor) r.roster t in subst (λ (k : ℕ). k ∈ r.roster) (sym (eqb-true e.id.editor u.0 u.2)) u.1
+      at t = let u = any_true (eqb e.id.editor) r.roster t in rw (eqb-true e.id.editor u.0 u.2) u.1
 
       go : (listed r e.id.editor ≡ true) ⊎ (listed r e.id.editor ≡ false) → Joins e.id.editor r.roster (cond (listed r e.id.editor) r.roster (placed e.id.editor r.roster))
       go (inl t) = rw t (joins_listed e.id.editor r.roster (at t))
@@ -77,7 +77,7 @@ module _ {E : Type 0} where
           (λ d m p. (joins i).1 (inl ((R i).1 (inr (d, m, p))))) (λ p. (joins i).1 (inr (sym p))) u.0 u.1 u.2
 
   same_rostered : (r : Replica E) (acc : List (Edit E)) → Rostered r acc → Rostered r (acc ++ [])
-  same_rostered r acc R = subst (λ (l : List (Edit E)). Rostered r l) (sym (append-nil acc)) R
+  same_rostered r acc R = rw (append-nil acc) R
 
   pub new_rostered : (editor : Option ℕ) (slots room : ℕ) → Rostered {E = E} (new editor slots room) []
   new_rostered None slots room i = ((λ m. elim m [ ]), λ u. elim u [ inl p ↦ cc | inr v ↦ elim v.1 [ ] ])
@@ -86,7 +86,7 @@ module _ {E : Type 0} where
   module _ (before : Id → Id → Bool) where
     -- nobody joins by what is released
     released_joins : (i n : ℕ) (js : List ℕ) (r : Replica E) → Joins i js r.roster → Joins i js (release before n r).roster
-    released_joins i n js r joins = subst (λ (k : List ℕ). Joins i js k) (sym (release_keeps before (λ r. r.roster) (λ e others r. refl) n r)) joins
+    released_joins i n js r joins = rw (release_keeps before (λ r. r.roster) (λ e others r. refl) n r) joins
 
     judge_rostered : (v : Verdict) (e : Edit E) (r : Replica E) (acc : List (Edit E)) → Rostered r acc
         → Rostered (judge before v e r).0 (acc ++ accepted_by (judge before v e r).1 e)

@@ -9,12 +9,11 @@ use Rattle.order.specs.Lists.{◌∈◌, ◌⊆◌, with_at}
 use Rattle.order.specs.Edits.{Change, Edit, Lawful}
 use Rattle.order.specs.Forests.{Forest, visible, tree}
 use Rattle.order.specs.Placing.{insertion_at, deletion_at}
-use Rattle.order.specs.Histories.{Next}
 use Rattle.order.specs.Systems.{Making, making_edit, edits_of, new_edit, extended, insertion_made, deletion_made, Reached, begin, inserts, deletes, takes_in}
 use Rattle.order.proofs.Lists.{in_left, in_right, in_split, in_snoc, each_snoc, sub_snoc, in_last, in_getD, in_map, of_map, at_it, at_other, at_each}
 use Rattle.order.proofs.Systems.{edits_more}
 use Rattle.order.proofs.Making.{insertion_lawful, deletion_lawful}
-use Rattle.runs.specs.Replicas.{Editor, Replica, new, declined, edited, own_waits, used_up, next_id, full, no_insert, no_delete, own_insertion, own_deletion, settled, applied_with, commit, insert, delete, Intake, take_all}
+use Rattle.runs.specs.Replicas.{Editor, Replica, declined, edited, own_waits, used_up, next_id, full, no_insert, no_delete, own_insertion, own_deletion, settled, applied_with, commit, insert, delete, Intake, take_all}
 use Rattle.runs.specs.Channels.{Bytes, Channel, Taken, Format, AllFit, KeepsLaw, Cut, uncut, one_cut, Puts, none_put, one_put, Sent, Line}
 use Rattle.runs.specs.Worlds as worlds
 use Rattle.runs.specs.Worlds.{World, Fresh, after_edit, with_line, after_send, after_fetch, Step, sends, fetches, misreads, finds_none, Leads, no_call, then, Run}
@@ -35,8 +34,8 @@ at_all P f i x it others = at_each (λ j. P) f i x it (λ j ne. others j)
 
 at_two : {X Y : Type 0} (P : ℕ → X → Y → Type 0) (f : ℕ → X) (g : ℕ → Y) (i : ℕ) (x : X) (y : Y)
     → P i x y → ((j : ℕ) → (j ≡ i → ⊥) → P j (f j) (g j)) → (j : ℕ) → P j (with_at f i x j) (with_at g i y j)
-at_two P f g i x y it others = at_each (λ j z. P j z (with_at g i y j)) f i x (subst (P i x) (sym (at_it g i y)) it)
-    (λ j ne. subst (P j (f j)) (sym (at_other g i y j ne)) (others j ne))
+at_two P f g i x y it others = at_each (λ j z. P j z (with_at g i y j)) f i x (rw (at_it g i y) it)
+    (λ j ne. rw (at_other g i y j ne) (others j ne))
 
 in_take : {X : Type 0} (n : ℕ) (xs : List X) → take n xs ⊆ xs
 in_take n xs x m = subst (λ (l : List _). x ∈ l) (take-append-drop n xs) (in_left (take n xs) (drop n xs) m)
@@ -60,7 +59,7 @@ module _ {X : Type 0} (format : Format X) (law : KeepsLaw format) (xs : List X) 
       last : (r : Bytes) → r ≡ (format.packs rest).0 → (ys : List X) → rest ⊆ xs → format.reads r ≡ Some ys → ys ⊆ xs
       last r p ys sub q e i =
           let same : take (format.packs rest).1 rest ≡ ys = same_Some _ ys (sym (law.packing rest pos (λ x m. fit x (sub x m))).read_back ∙ ap format.reads (sym p) ∙ q) in
-          sub e (in_take (format.packs rest).1 rest e (subst (λ (l : List X). e ∈ l) (sym same) i))
+          sub e (in_take (format.packs rest).1 rest e (rw same i))
 
       more : Pieces rs rest → Pieces (rs ++ ((format.packs rest).0 ∷ [])) (drop (format.packs rest).1 rest)
       more p = record {
@@ -84,7 +83,7 @@ moves : {E : Type 0} {before : Id → Id → Bool} {ms : List (Making E)} (hs : 
 moves hs i r stays = record { logs = hs; reached = r; there_now = refl; elsewhere = λ j ne. refl }
 moves {E} hs i r (on e o m n) = let M = moves hs i r o in record {
   logs = extended M.logs i e;
-  reached = takes_in i e M.reached m (subst (λ (l : List (Edit E)). Next l e) (sym M.there_now) n);
+  reached = takes_in i e M.reached m (rw M.there_now n);
   there_now = at_it M.logs i (M.logs i ++ (e ∷ [])) ∙ ap (λ (l : List (Edit E)). l ++ (e ∷ [])) M.there_now;
   elsewhere = λ j ne. at_other M.logs i (M.logs i ++ (e ∷ [])) j ne ∙ M.elsewhere j ne;
 }
@@ -134,14 +133,13 @@ module _ {E X : Type 0} (before : Id → Id → Bool) (meaning : X → Edit E) w
     logs = M.logs;
     reached = M.reached;
     sound = at_two (λ j r' acc. Sound before r' acc (M.logs j)) w.replicas w.accepted i _ _
-        (subst (Sound before r (w.accepted i ++ (m.edit ∷ []))) (sym M.there_now) A.sound)
-        (λ j ne. subst (Sound before (w.replicas j) (w.accepted j)) (sym (M.elsewhere j ne ∙ at_other S.logs i _ j ne)) (S.sound j));
+        (rw M.there_now A.sound)
+        (λ j ne. rw (M.elsewhere j ne ∙ at_other S.logs i _ j ne) (S.sound j));
     settled = at_all Settled w.replicas i r rest S.settled;
     roster = at_two (λ j r' acc. Rostered r' acc) w.replicas w.accepted i _ _ on_roster (λ j ne. S.roster j);
     owner = at_each (λ j r'. r'.editor ≡ Some j) w.replicas i r (same-editor ∙ S.owner i) (λ j ne. S.owner j);
     honest = at_all (λ (acc : List (Edit E)). acc ⊆ edits_of (w.makings ++ (m ∷ []))) w.accepted i _ own (λ j d k. wider d (S.honest j d k));
-    edits = subst (λ (l : List (Edit E)). (d : Edit E) → d ∈ l → SoundEdit d) (sym (map_push making_edit w.makings m))
-        (each_snoc SoundEdit (edits_of w.makings) m.edit S.edits s);
+    edits = rw (map_push making_edit w.makings m) (each_snoc SoundEdit (edits_of w.makings) m.edit S.edits s);
     records = λ c b k xs q x o. wider (meaning x) (S.records c b k xs q x o);
     formats = S.formats;
   }
@@ -153,17 +151,16 @@ module _ {E X : Type 0} (before : Id → Id → Bool) (meaning : X → Edit E) w
       own = sub_snoc (λ d k. wider d (S.honest i d k)) (in_map making_edit (w.makings ++ (m ∷ [])) (in_last w.makings m))
 
       M : Moved before (w.makings ++ (m ∷ [])) (extended S.logs i m.edit) i A.now
-      M = moves (extended S.logs i m.edit) i reach (subst (λ (l : List (Edit E)). Onward (λ (e : Edit E). e ∈ edits_of (w.makings ++ (m ∷ []))) l A.now) (sym (at_it S.logs i _))
-          (on_as own A.onward))
+      M = moves (extended S.logs i m.edit) i reach (rw (at_it S.logs i _) (on_as own A.onward))
 
   module _ (w : World E X) (S : Sim w) (i : ℕ) (ed : Editor i) where
     -- what the replica makes is what the theory makes
     own_sim : (o : Option Fault) (m : Making E) (c : Change E) → m.edit ≡ new_edit i (S.logs i) c
         → (o ≡ None → Reached before (w.makings ++ (m ∷ [])) (extended S.logs i m.edit) × Lawful (new_edit i (S.logs i) c))
         → Edits (S.sound i) i ed (S.owner i) (commit before o m (w.replicas i)) → Sim (after_edit w i (commit before o m (w.replicas i)))
-    own_sim (Some f) m c p reach F = subst Sim (sym (unedited w i f)) S
+    own_sim (Some f) m c p reach F = rw (unedited w i f) S
     own_sim None m c p reach F = made_sim w S i (applied_with before m.edit (w.replicas i)) (settled before m.edit (w.replicas i)) m (commit_editor before None m (w.replicas i)) (reach refl).0
-        (subst SoundEdit (sym p) (own_sound (S.sound i) i ed (S.owner i) c (reach refl).1)) F.after F.settled
+        (rw p (own_sound (S.sound i) i ed (S.owner i) c (reach refl).1)) F.after F.settled
         (commit_rostered before None m (w.replicas i) (w.accepted i) (S.owner i ∙ ap (λ (e : Edit E). Some e.id.editor) (sym p)) (S.roster i))
 
     insert_sim : (k : ℕ) (x : E) → Sim (after_edit w i (insert before k x (w.replicas i)))
@@ -248,8 +245,8 @@ module _ {E X : Type 0} (before : Id → Id → Bool) (meaning : X → Edit E) w
     logs = M.logs;
     reached = M.reached;
     sound = at_two (λ j r acc. Sound before r acc (M.logs j)) w.replicas w.accepted i _ _
-        (subst (Sound before intake.replica (w.accepted i ++ intake.accepted)) (sym M.there_now) F.after.sound)
-        (λ j ne. subst (Sound before (w.replicas j) (w.accepted j)) (sym (M.elsewhere j ne)) (S.sound j));
+        (rw M.there_now F.after.sound)
+        (λ j ne. rw (M.elsewhere j ne) (S.sound j));
     settled = at_all Settled w.replicas i _ F.settled S.settled;
     roster = at_two (λ j r acc. Rostered r acc) w.replicas w.accepted i _ _ (all_rostered before es (w.replicas i) (w.accepted i) (S.roster i)) (λ j ne. S.roster j);
     owner = at_each (λ j r. r.editor ≡ Some j) w.replicas i _ (take_all_editor before es (w.replicas i) ∙ S.owner i) (λ j ne. S.owner j);

@@ -9,7 +9,7 @@ use Rattle.edits.specs.declared.edit.Parent.TheVariants as parent
 use Rattle.edits.specs.Ids.{same}
 use Rattle.order.specs.Lists.{◌∈◌, ◌∉◌, keep}
 use Rattle.order.specs.Edits.{Clock, Change, insertion, deletion, Edit, Covers, is_insertion}
-use Rattle.order.specs.Forests.{Entry, Forest, read, ids, hide, apply, tree}
+use Rattle.order.specs.Forests.{Entry, read, hide, apply, tree}
 use Rattle.order.specs.Histories.{edit_ids, count, Next, History, more}
 use Rattle.order.proofs.Ids.{eq_same}
 use Rattle.order.proofs.Lists.{any_false, in_left, in_last, each_snoc, sub_snoc, Distinct, at_each}
@@ -113,7 +113,7 @@ module _ {E : Type 0} where
     }
       where
         grown : Effect e.id e.change (read r.forest) (read (apply before e r.forest))
-        grown = effect before e.id e.change r.forest (subst (λ (f : Forest E). Distinct (ids f)) (sym S.forest) (entries before S.history).distinct)
+        grown = effect before e.id e.change r.forest (rw S.forest (entries before S.history).distinct)
 
         not_there : (d : Edit E) → d ∈ others → (d.id ∈ edit_ids log) ⊎ (d.id ≡ e.id) → ⊥
         not_there d m (inl k) = (S.waiting d (sub d m)).1 k
@@ -155,7 +155,7 @@ module _ {E : Type 0} where
         there_now d m = go ((S.accepted d).0 m)
           where
             left : (d ≡ e) ⊎ (d ∈ others) → (d ∈ (log ++ (e ∷ []))) ⊎ (d ∈ others)
-            left (inl p) = inl (subst (λ (b : Edit E). b ∈ (log ++ (e ∷ []))) (sym p) (in_last log e))
+            left (inl p) = inl (rw p (in_last log e))
             left (inr j) = inr j
 
             go : (d ∈ log) ⊎ (d ∈ r.shelf) → (d ∈ (log ++ (e ∷ []))) ⊎ (d ∈ others)
