@@ -82,7 +82,7 @@ module _ {E : Type 0} where
       → beside a Left e xs ≡ e ∷ xs
   beside_first a e [] d h = absurd (none-some _ h)
   beside_first a e (x ∷ xs) d h = λ i. beside_one (eq_same x.id a (same_Some _ _ h) i) Left e x
-      (beside_absent a Left e xs (subst (λ (c : Id). c ∉ map entry_id xs) (same_Some _ _ h) d.0) i)
+      (beside_absent a Left e xs (rw⁻¹ (same_Some _ _ h) d.0) i)
 
   -- left of what stands right after b is right of b
   pub beside_after : (a b : Id) (e : Entry E) (xs : List (Entry E)) → Distinct (map entry_id xs) → after b (map entry_id xs) ≡ Some a
@@ -99,6 +99,6 @@ module _ {E : Type 0} where
       go (inl t) ih = let k : first (map entry_id xs) ≡ Some a = rw t at h in
           (λ i. beside_one (not_x (first_in (map entry_id xs) k) i) Left e x (beside_first a e xs d.1 k i))
           ∙ (λ i. beside_one (sym t i) Right e x
-          (sym (beside_absent b Right e xs (subst (λ (c : Id). c ∉ map entry_id xs) (same_eq x.id b t) d.0)) i))
+          (sym (beside_absent b Right e xs (rw⁻¹ (same_eq x.id b t) d.0)) i))
       go (inr t) ih = let k : after b (map entry_id xs) ≡ Some a = rw t at h in
           (λ i. beside_one (not_x (after_in b (map entry_id xs) k) i) Left e x (ih k i)) ∙ (λ i. beside_one (sym t i) Right e x (beside b Right e xs))

@@ -188,11 +188,11 @@ module _ {E : Type 0} where
   -- what is read between b and what is below it, or between two of those, is below it
   pub between : (s : Side) (b : Id) (f : Forest E) → Distinct (ids f) → (a y c : Id) → ((a ≡ b) ⊎ Under s b f a) → ((c ≡ b) ⊎ Under s b f c)
       → Before (ids f) a y → Before (ids f) y c → Under s b f y
-  between s b f d a y c m k p q = F.of_kid y (block_between s b F.ahead F.kids F.behind (subst Distinct F.reads d) a y c (kid m) (kid k)
-      (subst (λ (zs : List Id). Before zs a y) F.reads p) (subst (λ (zs : List Id). Before zs y c) F.reads q))
+  between s b f d a y c m k p q = F.of_kid y (block_between s b F.ahead F.kids F.behind (rw⁻¹ F.reads d) a y c (kid m) (kid k)
+      (rw⁻¹ F.reads p) (rw⁻¹ F.reads q))
     where
       b_in : (a ≡ b) ⊎ Under s b f a → b ∈ ids f
-      b_in (inl e) = subst (λ (z : Id). z ∈ ids f) e (before_left (ids f) a y p)
+      b_in (inl e) = rw⁻¹ e (before_left (ids f) a y p)
       b_in (inr u) = under_of s b f a u
 
       F : Found s b f
@@ -243,10 +243,10 @@ module _ {E : Type 0} where
 
       follows : after b (ids f) ≡ first (F.kids ++ F.behind)
       follows = ap (after b) F.reads ∙ after_it b F.ahead (F.kids ++ F.behind)
-          (λ m. distinct_across F.ahead (b ∷ (F.kids ++ F.behind)) (subst Distinct F.reads d) m (here refl))
+          (λ m. distinct_across F.ahead (b ∷ (F.kids ++ F.behind)) (rw⁻¹ F.reads d) m (here refl))
 
   pub follower_under : (b : Id) (f : Forest E) → Distinct (ids f) → has_right b f ≡ true → (a : Id) → after b (ids f) ≡ Some a → Under Right b f a
-  follower_under b f d h a e = let k = followed b f d h in subst (Under Right b f) (same_Some _ _ (sym k.1 ∙ e)) k.2
+  follower_under b f d h a e = let k = followed b f d h in rw⁻¹ (same_Some _ _ (sym k.1 ∙ e)) k.2
 
   module _ (before : Id → Id → Bool) where
     pub has_right_stays : (i : Id) (c : Change E) (p : Parent) (f : Forest E) → has_right_child p f ≡ true → has_right_child p (change before i c f) ≡ true

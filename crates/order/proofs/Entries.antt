@@ -48,7 +48,7 @@ module _ {E : Type 0} where
   pub entry_edit : {before : Id → Id → Bool} {h : List (Edit E)} → Entries before h → ids (tree before h) ⊆ edit_ids h
   entry_edit {before} {h} S a m = let u = of_map entry_id (read (tree before h)) m in
       let v = inserted_in h u.0.id (S.inserted u.0 u.1) in
-      subst (λ (b : Id). b ∈ edit_ids h) (v.2 ∙ u.2) (in_ids h v.1)
+      rw⁻¹ (v.2 ∙ u.2) (in_ids h v.1)
 
   module _ (before : Id → Id → Bool) (h : List (Edit E)) (S : Entries before h) (e : Edit E) (l : Lawful e) (n : Next h e) where
     f : Forest E
@@ -92,9 +92,9 @@ module _ {E : Type 0} where
     good : (c : Change E) → e.change ≡ c → (ys : List (Entry E)) → Effect e.id c (read f) ys → (y : Entry E) → y ∈ ys → Good y
     unfolding Good f
     good (insertion parent.Start s x) q ys g y m = good_grew parent.Start s x q g y m
-    good (insertion (parent.Entry p) s x) q ys (inl u) y m = old (keeps (parent.Entry p) s x q) y (subst (λ (zs : List (Entry E)). y ∈ zs) u.0 m)
+    good (insertion (parent.Entry p) s x) q ys (inl u) y m = old (keeps (parent.Entry p) s x q) y (rw⁻¹ u.0 m)
     good (insertion (parent.Entry p) s x) q ys (inr u) y m = good_grew (parent.Entry p) s x q u.0 y m
-    good (deletion t) q ys u y m = let v = of_map (hide t) (read f) (subst (λ (zs : List (Entry E)). y ∈ zs) u m) in subst Good v.2 (hidden v.0 v.1)
+    good (deletion t) q ys u y m = let v = of_map (hide t) (read f) (subst (λ (zs : List (Entry E)). y ∈ zs) u m) in rw⁻¹ v.2 (hidden v.0 v.1)
       where
         hidden : (z : Entry E) → z ∈ read f → Good (hide t z)
         hidden z k = (
@@ -121,7 +121,7 @@ module _ {E : Type 0} where
         F = effect before e.id e.change f S.distinct
 
         all : (y : Entry E) → y ∈ read (tree before (h ++ (e ∷ []))) → Good y
-        all y m = good e.change refl (read (apply before e f)) F y (subst (λ (g : Forest E). y ∈ read g) (tree_snoc before h e) m)
+        all y m = good e.change refl (read (apply before e f)) F y (rw⁻¹ (tree_snoc before h e) m)
 
         mark : (a : Id) → (deleted h a ≡ true) ⊎ (deletes e.change a ≡ true) → a ∈ edit_ids (h ++ (e ∷ []))
         mark a (inl t) = ids_old h e (S.marked a t)
@@ -167,7 +167,7 @@ module _ {E : Type 0} where
           where
             go : (a ∈ ids f) ⊎ (a ≡ e.id) → ⊥
             go (inl i) = out a (there m) i
-            go (inr p) = dr.0 (subst (λ (b : Id). b ∈ edit_ids r) p m)
+            go (inr p) = dr.0 (rw⁻¹ p m)
 
   all_shown : (xs : List (Entry E)) → map as_shown (keep is_shown xs) ≡ keep is_shown xs
   all_shown [] = refl
@@ -199,4 +199,4 @@ part_in_order {E} {before} O {h} {all} H A sub =
 
     fails : (a : Id) → a ∈ edit_ids (rest_of h all) → test a ≡ false
     fails a m = false_from_ne_true (test a) (λ t. let u = inserted_in h a (and_parts (inserted h a) (not (deleted h a)) t).0 in
-        rest_new h all a m (subst (λ (b : Id). b ∈ edit_ids h) u.2 (in_ids h u.1)))
+        rest_new h all a m (rw⁻¹ u.2 (in_ids h u.1)))

@@ -98,7 +98,7 @@ module _ {E : Type 0} (before : Id → Id → Bool) where
       taken Right = grew_before (read l) (grew_there x (grew_after (read n) (join_grew e r)))
 
       not_it : (f : Forest E) → p ≡ x.id → x.id ∉ ids f → p ∉ ids f
-      not_it f q no-x k = no-x (subst (λ (a : Id). a ∈ ids f) q k)
+      not_it f q no-x k = no-x (rw⁻¹ q k)
 
       go : Place p x l r n → Step l → Step r → Step n → Grew e (read (node x l r n)) (read (hang before p s e (node x l r n)))
       go (it q) L R N = rw (
@@ -135,6 +135,6 @@ module _ {E : Type 0} where
   -- no identifier but that of the edit is new
   pub effect_ids : (a : Id) (c : Change E) (xs ys : List (Entry E)) → Effect a c xs ys → (b : Id) → b ∈ map entry_id ys → (b ∈ map entry_id xs) ⊎ (b ≡ a)
   effect_ids a (insertion parent.Start s x) xs ys g b m = of_grew (grew_map entry_id g) b m
-  effect_ids a (insertion (parent.Entry p) s x) xs ys (inl h) b m = inl (subst (λ (zs : List (Entry E)). b ∈ map entry_id zs) h.0 m)
+  effect_ids a (insertion (parent.Entry p) s x) xs ys (inl h) b m = inl (rw⁻¹ h.0 m)
   effect_ids a (insertion (parent.Entry p) s x) xs ys (inr h) b m = of_grew (grew_map entry_id h.0) b m
-  effect_ids a (deletion t) xs ys h b m = inl (subst (λ (zs : List Id). b ∈ zs) (ap (map entry_id) h ∙ map-map entry_id (hide t) xs) m)
+  effect_ids a (deletion t) xs ys h b m = inl (rw⁻¹ (ap (map entry_id) h ∙ map-map entry_id (hide t) xs) m)

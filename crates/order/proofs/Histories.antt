@@ -25,13 +25,13 @@ module _ {E : Type 0} where
   of_ids h m = of_map edit_id h m
 
   pub ids_sub : (h k : List (Edit E)) → h ⊆ k → edit_ids h ⊆ edit_ids k
-  ids_sub h k sub a m = let u = of_ids h m in subst (λ (b : Id). b ∈ edit_ids k) u.2 (in_ids k (sub u.0 u.1))
+  ids_sub h k sub a m = let u = of_ids h m in rw⁻¹ u.2 (in_ids k (sub u.0 u.1))
 
   pub ids_old : (h : List (Edit E)) (e : Edit E) {a : Id} → a ∈ edit_ids h → a ∈ edit_ids (h ++ (e ∷ []))
   ids_old h e {a} m = ids_sub h (h ++ (e ∷ [])) (λ d k. in_left h (e ∷ []) k) a m
 
   pub ids_snoc : (h : List (Edit E)) (e : Edit E) {a : Id} → a ∈ edit_ids (h ++ (e ∷ [])) → (a ∈ edit_ids h) ⊎ (a ≡ e.id)
-  ids_snoc h e {a} m = in_snoc (edit_ids h) e.id (subst (λ (l : List Id). a ∈ l) (map_push edit_id h e) m)
+  ids_snoc h e {a} m = in_snoc (edit_ids h) e.id (rw⁻¹ (map_push edit_id h e) m)
 
   -- an edit does not cover itself
   pub not_own : (e : Edit E) → Lawful e → Covers e.clock e.id → ⊥
@@ -54,13 +54,13 @@ module _ {E : Type 0} where
     where
       go : (c ∈ h) ⊎ (c ≡ e) → (d ∈ h) ⊎ (d ≡ e) → (c ∈ h → d ∈ h → c.id ≡ d.id → c ≡ d) → c ≡ d
       go (inl i) (inl j) ih = ih i j p
-      go (inl i) (inr j) ih = absurd (n.new (subst (λ (a : Id). a ∈ edit_ids h) (p ∙ ap edit_id j) (in_ids h i)))
-      go (inr i) (inl j) ih = absurd (n.new (subst (λ (a : Id). a ∈ edit_ids h) (sym p ∙ ap edit_id i) (in_ids h j)))
+      go (inl i) (inr j) ih = absurd (n.new (rw⁻¹ (p ∙ ap edit_id j) (in_ids h i)))
+      go (inr i) (inl j) ih = absurd (n.new (rw⁻¹ (sym p ∙ ap edit_id i) (in_ids h j)))
       go (inr i) (inr j) ih = i ∙ sym j
 
   -- an edit of a history is in a part of it if its identifier is
   pub in_part : {h k : List (Edit E)} → History h → k ⊆ h → (d : Edit E) → d ∈ h → d.id ∈ edit_ids k → d ∈ k
-  in_part {h} {k} H sub d m i = let u = of_ids k i in subst (λ (c : Edit E). c ∈ k) (one_each H u.0 d (sub u.0 u.1) m u.2) u.1
+  in_part {h} {k} H sub d m i = let u = of_ids k i in rw⁻¹ (one_each H u.0 d (sub u.0 u.1) m u.2) u.1
 
   pub distinct_ids_snoc : (h : List (Edit E)) (e : Edit E) → Distinct (edit_ids h) → e.id ∉ edit_ids h → Distinct (edit_ids (h ++ (e ∷ [])))
   distinct_ids_snoc h e d new = rw (map_push edit_id h e) (distinct_snoc (edit_ids h) e.id d new)
@@ -112,7 +112,7 @@ module _ {E : Type 0} where
       last : (a : Id) → Covers (count (h ++ (e ∷ []))) a → e.id.editor ≡ a.editor
           → (count h a.editor < a.number) ⊎ (a.number ≤ count h a.editor) → a ∈ edit_ids (h ++ (e ∷ []))
       last a c p (inr le) = ids_old h e (C.full a (c.0, le))
-      last a c p (inl gt) = subst (λ (b : Id). b ∈ edit_ids (h ++ (e ∷ []))) (id_eq e.id a p same_number) (in_ids (h ++ (e ∷ [])) (in_last h e))
+      last a c p (inl gt) = rw⁻¹ (id_eq e.id a p same_number) (in_ids (h ++ (e ∷ [])) (in_last h e))
         where
           same_number : e.id.number ≡ a.number
           same_number = let o = count_own h e in

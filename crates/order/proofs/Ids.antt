@@ -17,7 +17,7 @@ same_eq a b e = let h = and_parts (eqb a.editor b.editor) (eqb a.number b.number
     id_eq a b (eqb-true a.editor b.editor h.0) (eqb-true a.number b.number h.1)
 
 pub eq_same : (a b : Id) → a ≡ b → same a b ≡ true
-eq_same a b e = subst (λ (c : Id). same a c ≡ true) e (same_refl a)
+eq_same a b e = rw⁻¹ e (same_refl a)
 
 pub same_apart : (a b : Id) → (a ≡ b → ⊥) → same a b ≡ false
 same_apart a b ne = false_from_ne_true (same a b) (λ e. ne (same_eq a b e))

@@ -156,7 +156,7 @@ module _ {E : Type 0} {before : Id → Id → Bool} (O : Order before) {ms : Lis
   below_knew : (s : Side) (b : Id) {h : List (Edit E)} → History h → h ⊆ edits_of ms → (y : Id) → Under s b (tree before h) y → Knew ms y b
   below_knew s b empty sub y u = absurd u
   below_knew s b (more {h} e H l n) sub y u =
-      go (under_was before e.id e.change s b y (tree before h) (subst (λ (f : Forest E). Under s b f y) (tree_snoc before h e) u))
+      go (under_was before e.id e.change s b y (tree before h) (rw⁻¹ (tree_snoc before h e) u))
       (below_knew s b H (λ d k. sub d (in_left h (e ∷ []) k)))
     where
       made : (m : Making E) × (m ∈ ms) × (m.edit ≡ e)
@@ -169,7 +169,7 @@ module _ {E : Type 0} {before : Id → Id → Bool} (O : Order before) {ms : Lis
       Earlier = (z : Id) → Under s b (tree before h) z → Knew ms z b
 
       covers : (p : Id) → Covers m.edit.clock p → (p ≡ b) ⊎ Under s b (tree before h) p → Earlier → Covers m.edit.clock b
-      covers p c (inl q) ih = subst (Covers m.edit.clock) q c
+      covers p c (inl q) ih = rw⁻¹ q c
       covers p c (inr v) ih = let k = ih p v in
           closed F m made.1 k.0.edit (in_map making_edit ms k.1) (rw k.2 c) b k.4
 

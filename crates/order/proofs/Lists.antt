@@ -132,7 +132,7 @@ module _ {A : Type 0} where
 
   pub distinct_across : (xs ys : List A) → Distinct (xs ++ ys) → {x : A} → x ∈ xs → x ∉ ys
   distinct_across [] ys d m k = elim m [ ]
-  distinct_across (z ∷ xs) ys d {x} (here e) k = d.0 (in_right xs ys (subst (λ (w : A). w ∈ ys) e k))
+  distinct_across (z ∷ xs) ys d {x} (here e) k = d.0 (in_right xs ys (rw⁻¹ e k))
   distinct_across (z ∷ xs) ys d {x} (there m) k = distinct_across xs ys d.1 m k
 
   pub distinct_snoc : (xs : List A) (y : A) → Distinct xs → y ∉ xs → Distinct (xs ++ (y ∷ []))
@@ -212,7 +212,7 @@ is_in_true xs a m = true_any (λ (x : Id). same x a) xs m (same_refl a)
 
 pub of_is_in : (xs : List Id) (a : Id) → is_in xs a ≡ true → a ∈ xs
 unfolding is_in
-of_is_in xs a t = let u = any_true (λ (x : Id). same x a) xs t in subst (λ (b : Id). b ∈ xs) (same_eq u.0 a u.2) u.1
+of_is_in xs a t = let u = any_true (λ (x : Id). same x a) xs t in rw⁻¹ (same_eq u.0 a u.2) u.1
 
 -- a function replaced at a place
 module _ {X : Type 0} where

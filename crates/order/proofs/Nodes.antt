@@ -21,7 +21,7 @@ module _ {E : Type 0} where
     nexts : a ∈ ids n → Place a x l r n
 
   pub place : {a : Id} (x : Entry E) (l r n : Forest E) → a ∈ ids (node x l r n) → Place a x l r n
-  place {a} x l r n m = go (in_split (ids l) (x.id ∷ (ids r ++ ids n)) (subst (λ (zs : List Id). a ∈ zs) (ids_node x l r n) m))
+  place {a} x l r n m = go (in_split (ids l) (x.id ∷ (ids r ++ ids n)) (rw⁻¹ (ids_node x l r n) m))
     where
       end : (a ∈ ids r) ⊎ (a ∈ ids n) → Place a x l r n
       end (inl k) = rights k
@@ -67,7 +67,7 @@ module _ {E : Type 0} where
   }
     where
       whole : Distinct (ids l ++ (x.id ∷ (ids r ++ ids n)))
-      whole = subst Distinct (ids_node x l r n) d
+      whole = rw⁻¹ (ids_node x l r n) d
 
       end : Distinct (x.id ∷ (ids r ++ ids n))
       end = distinct_right (ids l) (x.id ∷ (ids r ++ ids n)) whole

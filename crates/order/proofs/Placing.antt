@@ -21,7 +21,7 @@ use Rattle.order.proofs.Hanging.{inserted_first, inserted_after}
 module _ {E : Type 0} where
   ids_shown : (xs : List (Entry E)) (b : Id) → b ∈ map entry_id (keep is_shown xs) → b ∈ map entry_id xs
   ids_shown xs b m = let k = of_map entry_id (keep is_shown xs) m in
-      subst (λ (c : Id). c ∈ map entry_id xs) k.2 (in_map entry_id xs (of_keep is_shown xs k.1).0)
+      rw⁻¹ k.2 (in_map entry_id xs (of_keep is_shown xs k.1).0)
 
   neighbour_in : (xs : List (Entry E)) (k : ℕ) (b : Id) → get_or (map (λ (x : Entry E). parent.Entry x.id) xs) k parent.Start ≡ parent.Entry b
       → b ∈ map entry_id xs

@@ -53,7 +53,7 @@ module _ {E : Type 0} where
       where
         nothing_gone : d.id ≡ e.id → without e.id k ≡ k
         nothing_gone q = keep_all (other_than e.id) k (λ c i. ap not (same_apart c.id e.id
-            (λ p. n.new (subst (λ (a : Id). a ∈ edit_ids k) (p ∙ sym q) (in_ids k i)))))
+            (λ p. n.new (rw⁻¹ (p ∙ sym q) (in_ids k i)))))
 
         here_last : d ≡ e → same d.id e.id ≡ true → PutLast before e (k ++ (d ∷ []))
         here_last p t = record {
@@ -79,8 +79,8 @@ module _ {E : Type 0} where
             stays = keep_snoc (other_than e.id) k d true (ap not t)
 
             known : (a : Id) → Covers d.clock a → (c : Edit E) × (c ∈ k) × (c.id ≡ a) → a ∈ edit_ids (without e.id k)
-            known a c u = subst (λ (b : Id). b ∈ edit_ids (without e.id k)) u.2 (in_ids (without e.id k)
-                (in_without e.id k u.1 (λ p. free d (in_last k d) (subst (Covers d.clock) (sym u.2 ∙ p) c))))
+            known a c u = rw⁻¹ u.2 (in_ids (without e.id k)
+                (in_without e.id k u.1 (λ p. free d (in_last k d) (rw⁻¹ (sym u.2 ∙ p) c))))
 
             swapped : apply before d (apply before e (tree before (without e.id k))) ≡ apply before e (apply before d (tree before (without e.id k)))
             swapped = change_change O d.id e.id d.change e.change ne
@@ -109,7 +109,7 @@ module _ {E : Type 0} where
 
         rest : SameEdits h (without e.id k)
         rest d = (
-          (λ i. in_without e.id k ((alike d).0 (in_left h (e ∷ []) i)) (λ p. n.new (subst (λ (a : Id). a ∈ edit_ids h) p (in_ids h i)))),
+          (λ i. in_without e.id k ((alike d).0 (in_left h (e ∷ []) i)) (λ p. n.new (rw⁻¹ p (in_ids h i)))),
           λ i. let u = of_without e.id k i in
               each_snoc (λ (b : Edit E). (b.id ≡ e.id → ⊥) → b ∈ h) h e (λ b j ne. j) (λ ne. absurd (ne refl)) d ((alike d).1 u.0) u.1,
         )
@@ -135,7 +135,7 @@ module _ {E : Type 0} where
       go : (b : Bool) → Distinct (edit_ids (keep (beyond h) all)) → Distinct (edit_ids (cond b (e ∷ keep (beyond h) all) (keep (beyond h) all)))
       go true ih = (
         (λ m. let u = of_ids (keep (beyond h) all) m in
-            d.0 (subst (λ (a : Id). a ∈ edit_ids all) u.2 (in_ids all (of_keep (beyond h) all u.1).0))),
+            d.0 (rw⁻¹ u.2 (in_ids all (of_keep (beyond h) all u.1).0))),
         ih,
       )
       go false ih = ih
@@ -148,7 +148,7 @@ module _ {E : Type 0} where
       where
         go : (is_in (edit_ids h) a ≡ true) ⊎ (is_in (edit_ids h) a ≡ false) → (d : Edit E) × (d ∈ all) × (d.id ≡ a) → a ∈ edit_ids (h ++ rest_of h all)
         go (inl t) u = ids_sub h (h ++ rest_of h all) (λ d k. in_left h (rest_of h all) k) a (of_is_in (edit_ids h) a t)
-        go (inr t) u = subst (λ (b : Id). b ∈ edit_ids (h ++ rest_of h all)) u.2 (in_ids (h ++ rest_of h all)
+        go (inr t) u = rw⁻¹ u.2 (in_ids (h ++ rest_of h all)
             (in_right h (rest_of h all) (in_keep (beyond h) all u.1 (ap not (subst (λ (b : Id). is_in (edit_ids h) b ≡ false) (sym u.2) t)))))
 
     pub part_first : {all : List (Edit E)} → History all → History (h ++ rest_of h all)
@@ -158,16 +158,14 @@ module _ {E : Type 0} where
       where
         go : (b : Bool) → is_in (edit_ids h) e.id ≡ b → History (h ++ rest_of h all) → History (h ++ rest_of h (all ++ (e ∷ [])))
         go true t ih = rw (keep_snoc (beyond h) all e false (ap not t) ∙ append-nil (rest_of h all)) ih
-        go false t ih = subst History
-            (append_assoc h (rest_of h all) (e ∷ []) ∙ ap (λ (r : List (Edit E)). h ++ r) (sym (keep_snoc (beyond h) all e true (ap not t))))
-            (more e ih l (record { new = λ m. out (of_ids (h ++ rest_of h all) m); covered = λ a c. placed all a (n.covered a c) }))
+        go false t ih = rw⁻¹ (append_assoc h (rest_of h all) (e ∷ []) ∙ ap (λ (r : List (Edit E)). h ++ r) (sym (keep_snoc (beyond h) all e true (ap not t)))) (more e ih l (record { new = λ m. out (of_ids (h ++ rest_of h all) m); covered = λ a c. placed all a (n.covered a c) }))
           where
             out : (d : Edit E) × (d ∈ (h ++ rest_of h all)) × (d.id ≡ e.id) → ⊥
             out u = in_which (in_split h (rest_of h all) u.1)
               where
                 in_which : (u.0 ∈ h) ⊎ (u.0 ∈ rest_of h all) → ⊥
-                in_which (inl i) = false≢true (sym t ∙ is_in_true (edit_ids h) e.id (subst (λ (a : Id). a ∈ edit_ids h) u.2 (in_ids h i)))
-                in_which (inr i) = n.new (subst (λ (a : Id). a ∈ edit_ids all) u.2 (in_ids all (of_keep (beyond h) all i).0))
+                in_which (inl i) = false≢true (sym t ∙ is_in_true (edit_ids h) e.id (rw⁻¹ u.2 (in_ids h i)))
+                in_which (inr i) = n.new (rw⁻¹ u.2 (in_ids all (of_keep (beyond h) all i).0))
 
     pub part_same : {all : List (Edit E)} → History all → h ⊆ all → SameEdits (h ++ rest_of h all) all
     unfolding rest_of beyond

@@ -220,4 +220,4 @@ module _ {E : Type 0} {before : Id → Id → Bool} where
 
         v : (y : Forests.Entry E) × (y ∈ keep (stands h) (read (tree before (edits_of ms)))) × (as_shown y ≡ fresh m.edit.id u.0)
         v = of_map as_shown (keep (stands h) (read (tree before (edits_of ms))))
-            (subst (λ (ys : List (Forests.Entry E)). fresh m.edit.id u.0 ∈ ys) (part_in_order O (more m.edit M.history M.lawful M.next) F.all part) u.4)
+            (rw⁻¹ (part_in_order O (more m.edit M.history M.lawful M.next) F.all part) u.4)

@@ -36,7 +36,7 @@ total_more (suc n) h e l u = go (cases_eq e.id.editor (suc n)) (total_more n h e
         → (e.id.editor ≤ n → total n (count (h ++ (e ∷ []))) ≡ suc (total n (count h)))
         → count (h ++ (e ∷ [])) (suc n) + total n (count (h ++ (e ∷ []))) ≡ suc (count h (suc n) + total n (count h))
     go (inl p) ih =
-        let o : count (h ++ (e ∷ [])) (suc n) ≡ suc (count h (suc n)) = subst (λ (j : ℕ). count (h ++ (e ∷ [])) j ≡ suc (count h j)) p (count_own h e) in
+        let o : count (h ++ (e ∷ [])) (suc n) ≡ suc (count h (suc n)) = rw⁻¹ p (count_own h e) in
         omega (arith, total_same n h e (omega arith))
     go (inr ne) ih = omega (arith, count_other h e (suc n) ne, ih (omega arith))
 
@@ -65,7 +65,7 @@ module _ {E : Type 0} where
       where
         go : (e ∈ log) ⊎ (e ∈ r.shelf) → ((a : Id) (c : Covers e.clock a) → of a c ∈ log) → e ∈ log
         go (inl k) ih = k
-        go (inr k) ih = absurd (both_ways _ (rest e k) (covered_ready S e (λ a c. subst (λ (b : Id). b ∈ edit_ids log) (same_id a c) (in_ids log (ih a c)))))
+        go (inr k) ih = absurd (both_ways _ (rest e k) (covered_ready S e (λ a c. rw⁻¹ (same_id a c) (in_ids log (ih a c)))))
 
     pub log_applied : (e : Edit E) → e ∈ log → Applied acc e
     log_applied = history_applied S.history acc (λ e m. (S.accepted e).1 (inl m))
@@ -100,8 +100,7 @@ module _ {E : Type 0} where
     puts_at k n x m q = (
       u.0,
       ltb-false (length (visible r.forest)) k u.1,
-      subst (λ (v : Making E). PutAt k v.edit.id x r.forest (apply before v.edit r.forest)) (sym (insertion_is S i ed owner k x) ∙ u.0)
-          (rw S.forest (ap visible (sym (tree_snoc before log (insertion_made before i log k x).edit)) ∙ inserts_at before S.history i k x le)),
+      rw⁻¹ (sym (insertion_is S i ed owner k x) ∙ u.0) (rw S.forest (ap visible (sym (tree_snoc before log (insertion_made before i log k x).edit)) ∙ inserts_at before S.history i k x le)),
     )
       where
         u : (own_insertion k x r ≡ m) × (ltb (length (visible r.forest)) k ≡ false)
@@ -109,14 +108,13 @@ module _ {E : Type 0} where
             (allowed_by (next_id r) (own_waits r) (used_up r) (ltb (length (visible r.forest)) k) (full r)) q
 
         le : k ≤ length (visible (tree before log))
-        le = subst (λ (f : Forest E). k ≤ length (visible f)) S.forest (ltb-false (length (visible r.forest)) k u.1)
+        le = rw⁻¹ S.forest (ltb-false (length (visible r.forest)) k u.1)
 
     pub hides_at : (k n : ℕ) (m : Making E) → (delete before k r).1 ≡ edited m n → (own_deletion k r ≡ m) × (k < length (visible r.forest)) × HiddenAt k r.forest (apply before m.edit r.forest)
     hides_at k n m q = (
       u.0,
       leb-false (length (visible r.forest)) k u.1,
-      subst (λ (v : Making E). HiddenAt k r.forest (apply before v.edit r.forest)) (sym (deletion_is S i ed owner k) ∙ u.0)
-          (rw S.forest (ap visible (sym (tree_snoc before log (deletion_made before i log k).edit)) ∙ deletes_at before S.history i k lt)),
+      rw⁻¹ (sym (deletion_is S i ed owner k) ∙ u.0) (rw S.forest (ap visible (sym (tree_snoc before log (deletion_made before i log k).edit)) ∙ deletes_at before S.history i k lt)),
     )
       where
         u : (own_deletion k r ≡ m) × (leb (length (visible r.forest)) k ≡ false)
@@ -124,7 +122,7 @@ module _ {E : Type 0} where
             (allowed_by (next_id r) (own_waits r) (used_up r) (leb (length (visible r.forest)) k) false) q
 
         lt : k < length (visible (tree before log))
-        lt = subst (λ (f : Forest E). k < length (visible f)) S.forest (leb-false (length (visible r.forest)) k u.1)
+        lt = rw⁻¹ S.forest (leb-false (length (visible r.forest)) k u.1)
 
   pub new_sound : (before : Id → Id → Bool) (editor : Option ℕ) (slots room : ℕ) → Sound {E = E} before (new editor slots room) [] []
   new_sound before editor slots room = record {
