@@ -1,5 +1,5 @@
 -- Identifiers compared.
-use Rattle.std.proofs.Common.{◌≡◌, ◌<◌, true, false, eqb, ◌⊎◌, sym, refl, subst, inl, inr, arith, ltb-true, lt-ltb, eq-eqb, ne_eqb, eqb-true}
+use Rattle.std.proofs.Common.{◌≡◌, ◌<◌, true, false, eqb, ◌⊎◌, sym, refl, inl, inr, arith, ltb-true, lt-ltb, eq-eqb, ne_eqb, eqb-true}
 use Rattle.std.proofs.lemmas.Bool.{both_ways, cases_Bool, cases_order, false_from_ne_true, and_parts}
 use Rattle.std.proofs.Math.Logic.{⊎_map}
 use Rattle.edits.specs.declared.id.Id.{Id}

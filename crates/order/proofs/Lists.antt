@@ -1,5 +1,5 @@
 -- Members of lists, filters, lists without repetition, order of places, and functions replaced at a place.
-use Rattle.std.proofs.Common.{◌≡◌, ℕ, zero, suc, ◌<◌, Bool, true, false, cond, ◌||◌, eqb, ◌⊎◌, List, [], ◌∷◌, ◌++◌, map, length, get_or, sym, refl, ap, ◌∙◌, subst, inl, inr, arith, eq-eqb, ne_eqb, eqb-true}
+use Rattle.std.proofs.Common.{◌≡◌, ℕ, zero, suc, ◌<◌, Bool, true, false, cond, ◌||◌, eqb, ◌⊎◌, List, [], ◌∷◌, ◌++◌, map, length, get_or, sym, refl, ap, ◌∙◌, inl, inr, arith, eq-eqb, ne_eqb, eqb-true}
 use Rattle.std.proofs.lemmas.Bool.{false≢true, both_ways, cond-false, cond-true, cond_both, eqb-false, false_from_ne_true, or_cases, or_left, or_right}
 use Rattle.std.specs.Cmp.{both_ways as same_test}
 use Rattle.std.proofs.Math.Bool.{or_assoc}

@@ -1,5 +1,5 @@
 -- A node and its parts: its identifiers, where in it an identifier is, and that its parts share none; and how a deletion reads.
-use Rattle.std.proofs.Common.{◌≡◌, Bool, false, not, ◌&&◌, ◌⊎◌, List, ◌∷◌, ◌++◌, map, sym, refl, ap, ◌∙◌, subst, inl, inr}
+use Rattle.std.proofs.Common.{◌≡◌, Bool, false, not, ◌&&◌, ◌⊎◌, List, ◌∷◌, ◌++◌, map, sym, refl, ap, ◌∙◌, inl, inr}
 use Rattle.std.proofs.Math.Bool.{and-true}
 use Rattle.std.proofs.lemmas.List.{map-append}
 use Rattle.edits.specs.declared.id.Id.{Id}

@@ -1,5 +1,5 @@
 -- One replica, given any edits: its document is the tree of exactly the applied edits.
-use Rattle.std.proofs.Common.{◌≡◌, ℕ, zero, suc, ◌+◌, ◌<◌, ◌≤◌, Bool, false, ltb, leb, ◌⊎◌, List, [], ◌∷◌, ◌++◌, length, Some, None, Option, sym, refl, ap, ◌∙◌, subst, inl, inr, arith, ltb-false, leb-false}
+use Rattle.std.proofs.Common.{◌≡◌, ℕ, zero, suc, ◌+◌, ◌<◌, ◌≤◌, Bool, false, ltb, leb, ◌⊎◌, List, [], ◌∷◌, ◌++◌, length, Some, None, Option, sym, refl, ap, ◌∙◌, inl, inr, arith, ltb-false, leb-false}
 use Rattle.std.proofs.lemmas.List.{length_push}
 use Rattle.std.proofs.lemmas.Bool.{cases_eq, both_ways}
 use Rattle.std.proofs.Math.Path.{fun_ext}
@@ -7,8 +7,8 @@ use Rattle.edits.specs.declared.id.Id.{Id}
 use Rattle.edits.specs.declared.fault.Fault.{Fault}
 use Rattle.order.specs.Lists.{◌∈◌, ◌⊆◌}
 use Rattle.order.specs.Edits.{Clock, Edit, Covers}
-use Rattle.order.specs.Forests.{Forest, visible, apply, tree}
-use Rattle.order.specs.Histories.{edit_ids, count, History, empty, more}
+use Rattle.order.specs.Forests.{visible, apply, tree}
+use Rattle.order.specs.Histories.{count, History, empty, more}
 use Rattle.order.specs.Systems.{Making, insertion_made, deletion_made}
 use Rattle.order.specs.Theorems.{PutAt, HiddenAt}
 use Rattle.order.proofs.Lists.{in_left, in_last, each_snoc}

@@ -170,7 +170,7 @@ module _ {E : Type 0} {before : Id → Id → Bool} where
       lawful = l;
       maker = ed;
       counts = λ j one. let a : Id = record { editor = j; number = 1 } in let u = of_ids log ((counted S.history).full a (omega arith)) in
-          subst Editor (ap (λ (b : Id). b.editor) u.2) (S.makers u.0 u.1);
+          rw⁻¹ (ap (λ (b : Id). b.editor) u.2) (S.makers u.0 u.1);
     }
 
     -- no own edit waits

@@ -1,10 +1,9 @@
 -- Carried edits keep the rules: read off the invariants of their types.
 use Rattle.runs.specs.Promises.{SoundEdit}
-use Rattle.runs.specs.Replicas.{Editor}
 use Rattle.order.specs.Lists.{◌∈◌, here, there}
 use Rattle.edits.specs.Edits.{stamp_of}
 use Rattle.edits.specs.declared.edit.Edit.{Edit as Carried}
-use Rattle.std.proofs.Common.{◌≡◌, ℕ, suc, ◌-◌, ◌<◌, ◌≤◌, true, false, ◌&&◌, eqb, ltb, leb, ◌⊎◌, List, [], ◌∷◌, refl, subst, inl, inr, arith, ltb-true, eqb-true, leb-true}
+use Rattle.std.proofs.Common.{◌≡◌, ℕ, suc, ◌-◌, ◌<◌, ◌≤◌, true, false, ◌&&◌, eqb, ltb, leb, ◌⊎◌, List, [], ◌∷◌, refl, inl, inr, arith, ltb-true, eqb-true, leb-true}
 use Rattle.std.proofs.lemmas.Bool.{false≢true, cases_Bool, and_parts}
 use Rattle.edits.specs.declared.id.Id.{Id}
 use Rattle.edits.specs.declared.clock.Pair.{Pair}
@@ -81,7 +80,7 @@ carried_sound x wide = record {
   lawful = carried_lawful x;
   maker = (ltb-true 0 s.id.editor (and_parts (ltb 0 s.id.editor) _ s.kept).0, wide.0);
   counts = λ i one. let u = counted_listed (pairs_of s.clock) i one in
-      subst Editor u.2 (listed_above 0 (pairs_of s.clock) ascends u.0 u.1, wide.1 u.0 u.1);
+      rw⁻¹ u.2 (listed_above 0 (pairs_of s.clock) ascends u.0 u.1, wide.1 u.0 u.1);
 }
   where
     s : Stamp

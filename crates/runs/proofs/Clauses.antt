@@ -1,5 +1,5 @@
 -- Each call carries its clause: the run goes on through it, and the promises hold there.
-use Rattle.std.proofs.Common.{◌≡◌, ℕ, Bool, List, ap, ◌∙◌, subst, inl, inr, append-nil}
+use Rattle.std.proofs.Common.{◌≡◌, ℕ, Bool, List, ap, ◌∙◌, inl, inr, append-nil}
 use Rattle.edits.specs.declared.id.Id.{Id}
 use Rattle.order.specs.Lists.{with_at}
 use Rattle.order.specs.Edits.{Edit, Order}
@@ -44,13 +44,13 @@ module _ {E X : Type 0} {before : Id → Id → Bool} (O : Order before) (meanin
   pub insert_on : (k : ℕ) (x : E) (r : Replica E) → EditsOn before meaning r (insert before k x r)
   insert_on k x r w i run ed p = (
     promises O meaning w run,
-    subst (λ (q : Replica E). GoesOn before meaning (after_edit w i (insert before k x q))) p (goes_on w _ run (worlds.inserts i k x ed)),
+    rw⁻¹ p (goes_on w _ run (worlds.inserts i k x ed)),
   )
 
   pub delete_on : (k : ℕ) (r : Replica E) → EditsOn before meaning r (delete before k r)
   delete_on k r w i run ed p = (
     promises O meaning w run,
-    subst (λ (q : Replica E). GoesOn before meaning (after_edit w i (delete before k q))) p (goes_on w _ run (worlds.deletes i k ed)),
+    rw⁻¹ p (goes_on w _ run (worlds.deletes i k ed)),
   )
 
   pub send_on : (format : Format X) (h : Channel) (xs : List X) (k : Channel) (rs : List Bytes) (rest : List X) → Sent format h xs k rs rest → SendsOn before meaning format h xs k

@@ -1,5 +1,5 @@
 -- Edits taken in one after another, and what no call changes: a replica's editor.
-use Rattle.std.proofs.Common.{◌≡◌, ℕ, zero, suc, Bool, List, [], ◌∷◌, ◌++◌, length, Some, None, Option, refl, ◌∙◌, subst, append_assoc, append-nil}
+use Rattle.std.proofs.Common.{◌≡◌, ℕ, zero, suc, Bool, List, [], ◌∷◌, ◌++◌, length, Some, None, Option, refl, ◌∙◌, append_assoc, append-nil}
 use Rattle.edits.specs.declared.id.Id.{Id}
 use Rattle.edits.specs.declared.fault.Fault.{Fault}
 use Rattle.order.specs.Lists.{◌∈◌, here, there, ◌⊆◌}
@@ -76,9 +76,9 @@ module _ {E : Type 0} where
           → After before log i.replica (acc ++ (got ++ i.accepted))
       both r' got A i F = record {
         now = F.after.now;
-        onward = on_as (λ d m. subst (λ (l : List (Edit E)). d ∈ l) (append_assoc acc got i.accepted) m)
+        onward = on_as (λ d m. rw⁻¹ (append_assoc acc got i.accepted) m)
             (onward_then (on_as (λ d m. in_left (acc ++ got) i.accepted m) A.onward) F.after.onward);
-        sound = subst (λ (l : List (Edit E)). Sound before i.replica l F.after.now) (append_assoc acc got i.accepted) F.after.sound;
+        sound = rw⁻¹ (append_assoc acc got i.accepted) F.after.sound;
       }
 
       go : (a : Answer) (r' : Replica E) → Takes before r acc log e (r', a)

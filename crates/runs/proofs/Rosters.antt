@@ -1,5 +1,5 @@
 -- On the roster of a replica stand its own editor and the editors of all edits that it has accepted.
-use Rattle.std.proofs.Common.{◌≡◌, ℕ, Bool, true, false, cond, eqb, ltb, ◌⊎◌, ◌↔◌, List, [], ◌∷◌, ◌++◌, length, Some, None, Option, sym, refl, ap, ◌∙◌, subst, inl, inr, append_assoc, append-nil, eqb-true}
+use Rattle.std.proofs.Common.{◌≡◌, ℕ, Bool, true, false, cond, eqb, ltb, ◌⊎◌, ◌↔◌, List, [], ◌∷◌, ◌++◌, length, Some, None, Option, sym, refl, ap, ◌∙◌, inl, inr, append_assoc, append-nil, eqb-true}
 use Rattle.std.proofs.lemmas.Bool.{cases_Bool}
 use Rattle.edits.specs.declared.id.Id.{Id}
 use Rattle.edits.specs.declared.fault.Fault.{Fault}
@@ -115,6 +115,6 @@ module _ {E : Type 0} where
         go : (a : Answer) (r' : Replica E) → Rostered r' (acc ++ accepted_by a e)
             → ((acc' : List (Edit E)) → Rostered r' acc' → Rostered (take_all before es r').replica (acc' ++ (take_all before es r').accepted))
             → Rostered (after_one before (r', a) e (take_all before es)).replica (acc ++ (after_one before (r', a) e (take_all before es)).accepted)
-        go known r' R' ih = ih acc (subst (λ (l : List (Edit E)). Rostered r' l) (append-nil acc) R')
+        go known r' R' ih = ih acc (rw⁻¹ (append-nil acc) R')
         go (refused f) r' R' ih = R'
-        go (taken n) r' R' ih = subst (λ (l : List (Edit E)). Rostered (take_all before es r').replica l) (append_assoc acc (e ∷ []) (take_all before es r').accepted) (ih (acc ++ (e ∷ [])) R')
+        go (taken n) r' R' ih = rw⁻¹ (append_assoc acc (e ∷ []) (take_all before es r').accepted) (ih (acc ++ (e ∷ [])) R')

@@ -7,7 +7,7 @@ use Rattle.edits.specs.declared.id.Id.{Id}
 use Rattle.edits.specs.declared.fault.Fault.{Fault}
 use Rattle.order.specs.Lists.{◌∈◌, ◌⊆◌, with_at}
 use Rattle.order.specs.Edits.{Change, Edit, Lawful}
-use Rattle.order.specs.Forests.{Forest, visible, tree}
+use Rattle.order.specs.Forests.{visible, tree}
 use Rattle.order.specs.Placing.{insertion_at, deletion_at}
 use Rattle.order.specs.Systems.{Making, making_edit, edits_of, new_edit, extended, insertion_made, deletion_made, Reached, begin, inserts, deletes, takes_in}
 use Rattle.order.proofs.Lists.{in_left, in_right, in_split, in_snoc, each_snoc, sub_snoc, in_last, in_getD, in_map, of_map, at_it, at_other, at_each}
@@ -38,10 +38,10 @@ at_two P f g i x y it others = at_each (λ j z. P j z (with_at g i y j)) f i x (
     (λ j ne. rw (at_other g i y j ne) (others j ne))
 
 in_take : {X : Type 0} (n : ℕ) (xs : List X) → take n xs ⊆ xs
-in_take n xs x m = subst (λ (l : List _). x ∈ l) (take-append-drop n xs) (in_left (take n xs) (drop n xs) m)
+in_take n xs x m = rw⁻¹ (take-append-drop n xs) (in_left (take n xs) (drop n xs) m)
 
 in_drop : {X : Type 0} (n : ℕ) (xs : List X) → drop n xs ⊆ xs
-in_drop n xs x m = subst (λ (l : List _). x ∈ l) (take-append-drop n xs) (in_right (take n xs) (drop n xs) m)
+in_drop n xs x m = rw⁻¹ (take-append-drop n xs) (in_right (take n xs) (drop n xs) m)
 
 -- the records of a channel are read as edits that were made
 abbrev Known : {X Y : Type 0} → (X → Y) → List Y → Line X → Type 0
@@ -179,8 +179,7 @@ module _ {E X : Type 0} (before : Id → Id → Bool) (meaning : X → Edit E) w
         reach : no_insert k r ≡ None → Reached before (w.makings ++ (own_insertion k x r ∷ [])) (extended S.logs i (own_insertion k x r).edit) × Lawful (new_edit i (S.logs i) (insertion_at k x (tree before (S.logs i))))
         reach q = (
           subst (λ (m : Making E). Reached before (w.makings ++ (m ∷ [])) (extended S.logs i m.edit)) (sym is)
-              (inserts i k x S.reached (subst (λ (f : Forest E). k ≤ length (visible f)) (S.sound i).forest
-              (short (no_insert k r) (allowed_by (next_id r) (own_waits r) (used_up r) (ltb (length (visible r.forest)) k) (full r)) q))),
+              (inserts i k x S.reached (rw⁻¹ (S.sound i).forest (short (no_insert k r) (allowed_by (next_id r) (own_waits r) (used_up r) (ltb (length (visible r.forest)) k) (full r)) q))),
           insertion_lawful before (S.sound i).history i k x,
         )
 
@@ -198,8 +197,7 @@ module _ {E X : Type 0} (before : Id → Id → Bool) (meaning : X → Edit E) w
         short None a q = leb-false (length (visible r.forest)) k a.2
 
         within : no_delete k r ≡ None → k < length (visible (tree before (S.logs i)))
-        within q = subst (λ (f : Forest E). k < length (visible f)) (S.sound i).forest
-            (short (no_delete k r) (allowed_by (next_id r) (own_waits r) (used_up r) (leb (length (visible r.forest)) k) false) q)
+        within q = rw⁻¹ (S.sound i).forest (short (no_delete k r) (allowed_by (next_id r) (own_waits r) (used_up r) (leb (length (visible r.forest)) k) false) q)
 
         reach : no_delete k r ≡ None → Reached before (w.makings ++ (own_deletion k r ∷ [])) (extended S.logs i (own_deletion k r).edit) × Lawful (new_edit i (S.logs i) (deletion_at k (tree before (S.logs i))))
         reach q = (
@@ -229,12 +227,12 @@ module _ {E X : Type 0} (before : Id → Id → Bool) (meaning : X → Edit E) w
   }
 
   taken_known : (w : World E X) (S : Sim w) (c n : ℕ) (k : Channel) → Taken (w.lines c).holds n k → Known meaning (edits_of w.makings) (record { format = (w.lines c).format; holds = k })
-  taken_known w S c n k t r m = S.records c r (subst (λ (p : List Bytes). r ∈ p) t.put m)
+  taken_known w S c n k t r m = S.records c r (rw⁻¹ t.put m)
 
   sent_known : (w : World E X) (S : Sim w) (c : ℕ) (xs rest : List X) (rs : List Bytes) (k : Channel) → ((x : X) → x ∈ xs → meaning x ∈ edits_of w.makings)
       → AllFit (w.lines c).format xs → Sent (w.lines c).format (w.lines c).holds xs k rs rest → Known meaning (edits_of w.makings) (record { format = (w.lines c).format; holds = k })
   sent_known w S c xs rest rs k made fit sent r m ys q x o =
-      elim (in_split (w.lines c).holds.put rs (subst (λ (p : List Bytes). r ∈ p) (all_put (w.lines c).holds sent.puts) m)) [
+      elim (in_split (w.lines c).holds.put rs (rw⁻¹ (all_put (w.lines c).holds sent.puts) m)) [
         | inl a ↦ S.records c r a ys q x o
         | inr b ↦ made x ((pieces (w.lines c).format (S.formats c) xs fit sent.cut).read r b ys q x o)
       ]
@@ -263,8 +261,7 @@ module _ {E X : Type 0} (before : Id → Id → Bool) (meaning : X → Edit E) w
       intake = take_all before es (w.replicas i)
 
       made : es ⊆ edits_of w.makings
-      made e m = let u = of_map meaning xs m in subst (λ (b : Edit E). b ∈ edits_of w.makings) u.2
-          (S.records c (get_or (w.lines c).holds.put n []) (in_getD (w.lines c).holds.put n [] t.place) xs q u.0 u.1)
+      made e m = let u = of_map meaning xs m in rw⁻¹ u.2 (S.records c (get_or (w.lines c).holds.put n []) (in_getD (w.lines c).holds.put n [] t.place) xs q u.0 u.1)
 
       F : FedAll before (S.logs i) (w.accepted i) intake
       F = feeds es (λ e m. S.edits e (made e m)) (w.replicas i) (w.accepted i) (S.logs i) (S.sound i) (S.settled i)

@@ -117,7 +117,7 @@ module _ {E : Type 0} where
 
         not_there : (d : Edit E) → d ∈ others → (d.id ∈ edit_ids log) ⊎ (d.id ≡ e.id) → ⊥
         not_there d m (inl k) = (S.waiting d (sub d m)).1 k
-        not_there d m (inr p) = out (subst (λ (a : Id). a ∈ edit_ids others) p (in_ids others m))
+        not_there d m (inr p) = out (rw⁻¹ p (in_ids others m))
 
     -- a new edit is applied
     pub apply_new : (e : Edit E) → SoundEdit e → Next log e → e.id ∉ edit_ids r.shelf

@@ -1,5 +1,5 @@
 -- What the tests of a replica say.
-use Rattle.std.proofs.Common.{◌≡◌, ℕ, zero, suc, ◌+◌, ◌≤◌, Bool, true, false, cond, leb, ◌⊎◌, List, [], ◌∷◌, length, Some, None, Option, refl, ap, subst, inl, inr, arith, le-leb, leb-true}
+use Rattle.std.proofs.Common.{◌≡◌, ℕ, zero, suc, ◌+◌, ◌≤◌, Bool, true, false, cond, leb, ◌⊎◌, List, [], ◌∷◌, length, Some, None, Option, refl, ap, inl, inr, arith, le-leb, leb-true}
 use Rattle.std.proofs.lemmas.Bool.{cases_lt, and_parts}
 use Rattle.std.proofs.Math.Logic.{⊎_map}
 use Rattle.edits.specs.declared.id.Id.{Id}
@@ -16,7 +16,7 @@ pub within_each : (n : ℕ) (a b : Clock) → within n a b ≡ true → (i : ℕ
 unfolding within
 within_each zero a b t i l u = absurd (omega arith)
 within_each (suc n) a b t i l u = let both = and_parts (leb (a (suc n)) (b (suc n))) (within n a b) t in elim (cases_lt n i) [
-  | inl gt ↦ let last : suc n ≡ i = omega arith in subst (λ (j : ℕ). a j ≤ b j) last (leb-true (a (suc n)) (b (suc n)) both.0)
+  | inl gt ↦ let last : suc n ≡ i = omega arith in rw⁻¹ last (leb-true (a (suc n)) (b (suc n)) both.0)
   | inr le ↦ within_each n a b both.1 i l le
 ]
 
@@ -97,7 +97,7 @@ module _ {E : Type 0} where
   }
     where
       out : Distinct (edit_ids (d ∷ es)) → e.id ∈ (d.id ∷ edit_ids others) → ⊥
-      out a (here q) = a.0 (subst (λ (i : Id). i ∈ edit_ids es) q (in_map edit_id es k.member))
+      out a (here q) = a.0 (rw⁻¹ q (in_map edit_id es k.member))
       out a (there m) = (k.apart a.1).1 m
 
   pub picks : (p : Edit E → Bool) (es : List (Edit E)) → Picks p es (pick p es)
