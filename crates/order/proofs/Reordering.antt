@@ -158,7 +158,8 @@ module _ {E : Type 0} where
       where
         go : (b : Bool) → is_in (edit_ids h) e.id ≡ b → History (h ++ rest_of h all) → History (h ++ rest_of h (all ++ (e ∷ [])))
         go true t ih = rw (keep_snoc (beyond h) all e false (ap not t) ∙ append-nil (rest_of h all)) ih
-        go false t ih = rw⁻¹ (append_assoc h (rest_of h all) (e ∷ []) ∙ ap (λ (r : List (Edit E)). h ++ r) (sym (keep_snoc (beyond h) all e true (ap not t)))) (more e ih l (record { new = λ m. out (of_ids (h ++ rest_of h all) m); covered = λ a c. placed all a (n.covered a c) }))
+        go false t ih = rw⁻¹ (append_assoc h (rest_of h all) (e ∷ []) ∙ ap (λ (r : List (Edit E)). h ++ r) (sym (keep_snoc (beyond h) all e true (ap not t))))
+            (more e ih l (record { new = λ m. out (of_ids (h ++ rest_of h all) m); covered = λ a c. placed all a (n.covered a c) }))
           where
             out : (d : Edit E) × (d ∈ (h ++ rest_of h all)) × (d.id ≡ e.id) → ⊥
             out u = in_which (in_split h (rest_of h all) u.1)

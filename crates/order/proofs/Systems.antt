@@ -183,7 +183,11 @@ module _ {E : Type 0} {before : Id → Id → Bool} where
 
     edits_counts : (i j : ℕ) → SameEdits (hs i) (hs j) → SameCounts (hs i) (hs j)
     edits_counts i j alike editor =
-        omega (arith, count_part (counted (F.each i)) (counted (F.each j)) (ids_sub (hs i) (hs j) (λ e. (alike e).0)) editor, count_part (counted (F.each j)) (counted (F.each i)) (ids_sub (hs j) (hs i) (λ e. (alike e).1)) editor)
+        omega (
+          arith,
+          count_part (counted (F.each i)) (counted (F.each j)) (ids_sub (hs i) (hs j) (λ e. (alike e).0)) editor,
+          count_part (counted (F.each j)) (counted (F.each i)) (ids_sub (hs j) (hs i) (λ e. (alike e).1)) editor,
+        )
 
     pub agreement : Order before → (i j : ℕ) → (SameCounts (hs i) (hs j) ↔ SameEdits (hs i) (hs j))
         × (SameEdits (hs i) (hs j) → visible (tree before (hs i)) ≡ visible (tree before (hs j)))

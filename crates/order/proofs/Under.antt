@@ -78,7 +78,7 @@ module _ {E : Type 0} where
   grows_then : {f g h : Forest E} → Grows f g → Grows g h → Grows f h
   grows_then F G = record { inside = λ a i. G.inside a (F.inside a i); below = λ s b a u. G.below s b a (F.below s b a u) }
 
-  -- a deletion changes no place, in cases_Bool direction
+  -- a deletion changes no place, in either direction
   bury_same : (t : Id) (f : Forest E) → Grows f (bury t f) × Grows (bury t f) f
   bury_same t nil = (grows_same nil, grows_same nil)
   bury_same t (node x l r n) = let L = bury_same t l in let R = bury_same t r in let N = bury_same t n in

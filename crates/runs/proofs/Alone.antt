@@ -48,8 +48,8 @@ total_none (suc n) = omega (arith, total_none n)
 -- a clock adds up to the number of edits that it counts
 total_length : {E : Type 0} {h : List (Edit E)} → History h → ((e : Edit E) → e ∈ h → Editor e.id.editor) → total 255 (count h) ≡ length h
 total_length empty ed = total_none 255
-total_length (more {h} e H l n) ed = let o = ed e (in_last h e) in let k = length_push h e in
-    let a = total_more 255 h e o.0 o.1 in let ih = total_length H (λ d m. ed d (in_left h (e ∷ []) m)) in omega arith
+total_length (more {h} e H l n) ed = let o = ed e (in_last h e) in
+    omega (arith, length_push h e, total_more 255 h e o.0 o.1, total_length H (λ d m. ed d (in_left h (e ∷ []) m)))
 
 module _ {E : Type 0} where
   -- an edit of a history is applied wherever the whole history was accepted
