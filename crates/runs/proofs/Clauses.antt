@@ -1,14 +1,13 @@
 -- Each call carries its clause: the run goes on through it, and the promises hold there.
-use Rattle.std.proofs.Common.{◌≡◌, ℕ, Bool, List, ap, ◌∙◌, inl, inr, append-nil}
+use Rattle.std.proofs.Common.{◌≡◌, ℕ, Bool, List, ap, ◌∙◌, inl, inr}
 use Rattle.edits.specs.declared.id.Id.{Id}
-use Rattle.order.specs.Lists.{with_at}
 use Rattle.order.specs.Edits.{Edit, Order}
 use Rattle.runs.specs.Replicas.{Editor, Replica, insert, delete, Intake}
 use Rattle.runs.specs.Channels.{Channel, Format, Sent, Bytes}
 use Rattle.runs.specs.Worlds as worlds
 use Rattle.runs.specs.Worlds.{World, after_edit, with_line, after_send, after_fetch, Step, sends, fetches, misreads, finds_none, then, Run}
 use Rattle.runs.specs.Clauses.{GoesOn, untouched, EditsOn, SendsOn, Fetched, FetchesOn}
-use Rattle.runs.proofs.Simulation.{at_same}
+use Rattle.runs.proofs.Simulation.{at_same, none_more}
 use Rattle.runs.proofs.Promises.{promises}
 
 module _ {E X : Type 0} {before : Id → Id → Bool} (O : Order before) (meaning : X → Edit E) where
@@ -28,7 +27,7 @@ module _ {E X : Type 0} {before : Id → Id → Bool} (O : Order before) (meanin
     replicas = at_same w.replicas i d;
     lines = with_line w c k;
     makings = w.makings;
-    accepted = (ap (with_at w.accepted i) (append-nil (w.accepted i)) ∙ at_same w.accepted i) d;
+    accepted = none_more w.accepted i d;
   }
 
   same_send : (w : World E X) (c : ℕ) (k : Channel) → k ≡ (w.lines c).holds → after_send w c k ≡ w

@@ -29,6 +29,10 @@ use Rattle.runs.proofs.Keeping.{commit_editor, take_all_editor, take_all_sub, Fe
 pub at_same : {X : Type 0} (f : ℕ → X) (i : ℕ) → with_at f i (f i) ≡ f
 at_same f i = fun_ext (at_each (λ j x. x ≡ f j) f i (f i) refl (λ j ne. refl))
 
+-- no edit is accepted at a place
+pub none_more : {X : Type 0} (f : ℕ → List X) (i : ℕ) → with_at f i (f i ++ []) ≡ f
+none_more f i = ap (with_at f i) (append-nil (f i)) ∙ at_same f i
+
 at_all : {X : Type 0} (P : X → Type 0) (f : ℕ → X) (i : ℕ) (x : X) → P x → ((j : ℕ) → P (f j)) → (j : ℕ) → P (with_at f i x j)
 at_all P f i x it others = at_each (λ j. P) f i x it (λ j ne. others j)
 
@@ -121,7 +125,7 @@ module _ {E X : Type 0} (before : Id → Id → Bool) (meaning : X → Edit E) w
     replicas = at_same w.replicas i d;
     lines = w.lines;
     makings = append-nil w.makings d;
-    accepted = (ap (with_at w.accepted i) (append-nil (w.accepted i)) ∙ at_same w.accepted i) d;
+    accepted = none_more w.accepted i d;
   }
 
   -- one edit is made at the replica i
