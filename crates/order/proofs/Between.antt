@@ -1,6 +1,7 @@
 -- What is below an entry on a side stands together, next to the entry; and whether an entry has a right child.
-use Rattle.std.proofs.Common.{◌≡◌, Bool, true, false, ◌&&◌, ◌||◌, ◌⊎◌, List, [], ◌∷◌, ◌++◌, Some, sym, refl, ap, ◌∙◌, subst, inl, inr, append_assoc, append-nil}
-use mathlib.Core.Bool.{false≢true}
+use Rattle.std.proofs.Common.{◌≡◌, Bool, true, ◌&&◌, ◌⊎◌, List, [], ◌∷◌, ◌++◌, Some, sym, refl, ap, ◌∙◌, subst, inl, inr, append_assoc, append-nil}
+use Rattle.std.proofs.lemmas.Option.{same_Some}
+use Rattle.std.proofs.lemmas.Bool.{false≢true, and_parts, or_cases, or_left, or_right}
 use Rattle.edits.specs.declared.id.Id.{Id}
 use Rattle.edits.specs.declared.edit.Side.{Side}
 use Rattle.edits.specs.declared.edit.Side.TheVariants.{Left, Right}
@@ -11,11 +12,11 @@ use Rattle.order.specs.Lists.{◌∈◌, here, there, Before}
 use Rattle.order.specs.Edits.{Change, insertion}
 use Rattle.order.specs.Forests.{Entry, Forest, nil, node, ids, change}
 use Rattle.order.specs.Placing.{first, after, is_node, has_right, has_right_child}
-use Rattle.order.proofs.Ids.{same_eq, eq_same, and_true, or_left, or_right}
-use Rattle.order.proofs.Lists.{in_left, in_right, in_split, in_nil, in_snoc, Distinct, distinct_across}
+use Rattle.order.proofs.Ids.{same_eq, eq_same}
+use Rattle.order.proofs.Lists.{in_left, in_right, in_split, in_snoc, Distinct, distinct_across}
 use Rattle.order.proofs.Lists.{before_left, before_right, before_later, before_earlier, before_across, before_once}
 use Rattle.order.proofs.Nodes.{ids_node, Place, it, lefts, rights, nexts, place, placed, Apart, apart}
-use Rattle.order.proofs.Beside.{some_eq, first_some, after_it}
+use Rattle.order.proofs.Beside.{first_some, after_it}
 use Rattle.order.proofs.Under.{side_of, Under, under_in, under_of, under_stays, under_new, ids_stay, ids_new}
 
 -- identifiers that belong to b on a side, and b itself, as they are read
@@ -73,12 +74,6 @@ block_between s b us ks vs d a y c m k p q = go (in_split us rest (before_right 
     go (inl h) = absurd (before_once all d a y p (before_across us rest y a h (in_left (block s b ks) vs (in_block s b ks m))))
     go (inr h) = end (in_split (block s b ks) vs h)
 
-any_true : (a b c d : Bool) → (a || (b || (c || d))) ≡ true → (a ≡ true) ⊎ ((b ≡ true) ⊎ ((c ≡ true) ⊎ (d ≡ true)))
-any_true true b c d e = inl refl
-any_true false true c d e = inr (inl refl)
-any_true false false true d e = inr (inr (inl refl))
-any_true false false false d e = inr (inr (inr e))
-
 module _ {E : Type 0} where
   -- what is below an entry is in the part of the node where the entry is
   below_it : (x : Entry E) (l r n : Forest E) → Apart x l r n → (s : Side) (a : Id) → Under s x.id (node x l r n) a → a ∈ ids (side_of s l r)
@@ -88,19 +83,19 @@ module _ {E : Type 0} where
   below_it x l r n A s a (inr (inr (inr u))) = absurd (A.it_nexts (under_of s x.id n a u))
 
   below_lefts : (x : Entry E) (l r n : Forest E) → Apart x l r n → (s : Side) (b a : Id) → b ∈ ids l → Under s b (node x l r n) a → Under s b l a
-  below_lefts x l r n A s b a m (inl u) = absurd (A.it_lefts (subst (λ (c : Id). c ∈ ids l) (sym u.0) m))
+  below_lefts x l r n A s b a m (inl u) = absurd (A.it_lefts (rw u.0 m))
   below_lefts x l r n A s b a m (inr (inl u)) = u
   below_lefts x l r n A s b a m (inr (inr (inl u))) = absurd (A.lefts_rights m (under_of s b r a u))
   below_lefts x l r n A s b a m (inr (inr (inr u))) = absurd (A.lefts_nexts m (under_of s b n a u))
 
   below_rights : (x : Entry E) (l r n : Forest E) → Apart x l r n → (s : Side) (b a : Id) → b ∈ ids r → Under s b (node x l r n) a → Under s b r a
-  below_rights x l r n A s b a m (inl u) = absurd (A.it_rights (subst (λ (c : Id). c ∈ ids r) (sym u.0) m))
+  below_rights x l r n A s b a m (inl u) = absurd (A.it_rights (rw u.0 m))
   below_rights x l r n A s b a m (inr (inl u)) = absurd (A.lefts_rights (under_of s b l a u) m)
   below_rights x l r n A s b a m (inr (inr (inl u))) = u
   below_rights x l r n A s b a m (inr (inr (inr u))) = absurd (A.rights_nexts m (under_of s b n a u))
 
   below_nexts : (x : Entry E) (l r n : Forest E) → Apart x l r n → (s : Side) (b a : Id) → b ∈ ids n → Under s b (node x l r n) a → Under s b n a
-  below_nexts x l r n A s b a m (inl u) = absurd (A.it_nexts (subst (λ (c : Id). c ∈ ids n) (sym u.0) m))
+  below_nexts x l r n A s b a m (inl u) = absurd (A.it_nexts (rw u.0 m))
   below_nexts x l r n A s b a m (inr (inl u)) = absurd (A.lefts_nexts (under_of s b l a u) m)
   below_nexts x l r n A s b a m (inr (inr (inl u))) = absurd (A.rights_nexts (under_of s b r a u) m)
   below_nexts x l r n A s b a m (inr (inr (inr u))) = u
@@ -148,7 +143,7 @@ module _ {E : Type 0} where
       mine = block s b F.kids
 
   found : (s : Side) (b : Id) (f : Forest E) → Distinct (ids f) → b ∈ ids f → Found s b f
-  found s b nil d m = absurd (in_nil m)
+  found s b nil d m = elim m [ ]
   found s b (node x l r n) d m = go (apart x l r n d) (place x l r n m) (found s b l) (found s b r) (found s b n)
     where
       own : (t : Side) → Apart x l r n → Found t x.id (node x l r n)
@@ -173,7 +168,7 @@ module _ {E : Type 0} where
       Step f = Distinct (ids f) → b ∈ ids f → Found s b f
 
       go : Apart x l r n → Place b x l r n → Step l → Step r → Step n → Found s b (node x l r n)
-      go A (it e) L R N = subst (λ (c : Id). Found s c (node x l r n)) (sym e) (own s A)
+      go A (it e) L R N = rw e (own s A)
       go A (lefts k) L R N = found_within s b (node x l r n) l [] (x.id ∷ (ids r ++ ids n)) (ids_node x l r n)
           (λ a u. below_lefts x l r n A s b a k u) (λ a u. inr (inl u)) (L A.in_lefts k)
       go A (rights k) L R N = found_within s b (node x l r n) r (ids l ++ (x.id ∷ [])) (ids n)
@@ -185,7 +180,7 @@ module _ {E : Type 0} where
           (λ a u. below_nexts x l r n A s b a k u) (λ a u. inr (inr (inr u))) (N A.in_nexts k)
 
   pub under_aside : (s : Side) (b : Id) (f : Forest E) → Distinct (ids f) → (a : Id) → Under s b f a → Aside s (ids f) b a
-  under_aside s b f d a u = subst (λ (zs : List Id). Aside s zs b a) (sym F.reads) (block_aside s b F.ahead F.kids F.behind a (F.is_kid a u))
+  under_aside s b f d a u = rw F.reads (block_aside s b F.ahead F.kids F.behind a (F.is_kid a u))
     where
       F : Found s b f
       F = found s b f d (under_of s b f a u)
@@ -193,11 +188,11 @@ module _ {E : Type 0} where
   -- what is read between b and what is below it, or between two of those, is below it
   pub between : (s : Side) (b : Id) (f : Forest E) → Distinct (ids f) → (a y c : Id) → ((a ≡ b) ⊎ Under s b f a) → ((c ≡ b) ⊎ Under s b f c)
       → Before (ids f) a y → Before (ids f) y c → Under s b f y
-  between s b f d a y c m k p q = F.of_kid y (block_between s b F.ahead F.kids F.behind (subst Distinct F.reads d) a y c (kid m) (kid k)
-      (subst (λ (zs : List Id). Before zs a y) F.reads p) (subst (λ (zs : List Id). Before zs y c) F.reads q))
+  between s b f d a y c m k p q = F.of_kid y (block_between s b F.ahead F.kids F.behind (rw⁻¹ F.reads d) a y c (kid m) (kid k)
+      (rw⁻¹ F.reads p) (rw⁻¹ F.reads q))
     where
       b_in : (a ≡ b) ⊎ Under s b f a → b ∈ ids f
-      b_in (inl e) = subst (λ (z : Id). z ∈ ids f) e (before_left (ids f) a y p)
+      b_in (inl e) = rw⁻¹ e (before_left (ids f) a y p)
       b_in (inr u) = under_of s b f a u
 
       F : Found s b f
@@ -212,34 +207,29 @@ module _ {E : Type 0} where
   node_has (node x l r n) e = (x.id, placed x l r n (it refl))
 
   has_node : (f : Forest E) {a : Id} → a ∈ ids f → is_node f ≡ true
-  has_node nil m = absurd (in_nil m)
+  has_node nil m = elim m [ ]
   has_node (node x l r n) m = refl
 
   -- an entry has a right child where something is below it on the right
   right_below : (b : Id) (f : Forest E) → has_right b f ≡ true → (a : Id) × Under Right b f a
   right_below b nil e = absurd (false≢true e)
-  right_below b (node x l r n) e = go (any_true (same x.id b && is_node r) (has_right b l) (has_right b r) (has_right b n) e)
-      (right_below b l) (right_below b r) (right_below b n)
-    where
-      Step : Forest E → Type 0
-      Step f = has_right b f ≡ true → (a : Id) × Under Right b f a
-
-      go : ((same x.id b && is_node r) ≡ true) ⊎ ((has_right b l ≡ true) ⊎ ((has_right b r ≡ true) ⊎ (has_right b n ≡ true)))
-          → Step l → Step r → Step n → (a : Id) × Under Right b (node x l r n) a
-      go (inl t) L R N = let h = and_true (same x.id b) (is_node r) t in let k = node_has r h.1 in (k.0, inl (same_eq x.id b h.0, k.1))
-      go (inr (inl t)) L R N = let k = L t in (k.0, inr (inl k.1))
-      go (inr (inr (inl t))) L R N = let k = R t in (k.0, inr (inr (inl k.1)))
-      go (inr (inr (inr t))) L R N = let k = N t in (k.0, inr (inr (inr k.1)))
+  right_below b (node x l r n) e = elim (or_cases (same x.id b && is_node r) _ e) [
+    | inl t ↦ let h = and_parts (same x.id b) (is_node r) t in let k = node_has r h.1 in (k.0, inl (same_eq x.id b h.0, k.1))
+    | inr f ↦ elim (or_cases (has_right b l) _ f) [
+      | inl t ↦ let k = right_below b l t in (k.0, inr (inl k.1))
+      | inr g ↦ elim (or_cases (has_right b r) _ g) [
+        | inl t ↦ let k = right_below b r t in (k.0, inr (inr (inl k.1)))
+        | inr t ↦ let k = right_below b n t in (k.0, inr (inr (inr k.1)))
+      ]
+    ]
+  ]
 
   pub below_right : (b : Id) (f : Forest E) (a : Id) → Under Right b f a → has_right b f ≡ true
   below_right b nil a u = absurd u
   below_right b (node x l r n) a (inl u) = rw (eq_same x.id b u.0, has_node r u.1)
-  below_right b (node x l r n) a (inr (inl u)) = or_right (same x.id b && is_node r) (has_right b l || (has_right b r || has_right b n))
-      (or_left (has_right b l) (has_right b r || has_right b n) (below_right b l a u))
-  below_right b (node x l r n) a (inr (inr (inl u))) = or_right (same x.id b && is_node r) (has_right b l || (has_right b r || has_right b n))
-      (or_right (has_right b l) (has_right b r || has_right b n) (or_left (has_right b r) (has_right b n) (below_right b r a u)))
-  below_right b (node x l r n) a (inr (inr (inr u))) = or_right (same x.id b && is_node r) (has_right b l || (has_right b r || has_right b n))
-      (or_right (has_right b l) (has_right b r || has_right b n) (or_right (has_right b r) (has_right b n) (below_right b n a u)))
+  below_right b (node x l r n) a (inr (inl u)) = or_right (same x.id b && is_node r) _ (or_left (has_right b l) _ (below_right b l a u))
+  below_right b (node x l r n) a (inr (inr (inl u))) = or_right (same x.id b && is_node r) _ (or_right (has_right b l) _ (or_left (has_right b r) _ (below_right b r a u)))
+  below_right b (node x l r n) a (inr (inr (inr u))) = or_right (same x.id b && is_node r) _ (or_right (has_right b l) _ (or_right (has_right b r) _ (below_right b n a u)))
 
   -- an entry with a right child has a follower, which is below it on the right
   pub followed : (b : Id) (f : Forest E) → Distinct (ids f) → has_right b f ≡ true → (a : Id) × (after b (ids f) ≡ Some a) × Under Right b f a
@@ -253,10 +243,10 @@ module _ {E : Type 0} where
 
       follows : after b (ids f) ≡ first (F.kids ++ F.behind)
       follows = ap (after b) F.reads ∙ after_it b F.ahead (F.kids ++ F.behind)
-          (λ m. distinct_across F.ahead (b ∷ (F.kids ++ F.behind)) (subst Distinct F.reads d) m (here refl))
+          (λ m. distinct_across F.ahead (b ∷ (F.kids ++ F.behind)) (rw⁻¹ F.reads d) m (here refl))
 
   pub follower_under : (b : Id) (f : Forest E) → Distinct (ids f) → has_right b f ≡ true → (a : Id) → after b (ids f) ≡ Some a → Under Right b f a
-  follower_under b f d h a e = let k = followed b f d h in subst (Under Right b f) (some_eq (sym k.1 ∙ e)) k.2
+  follower_under b f d h a e = let k = followed b f d h in rw⁻¹ (same_Some _ _ (sym k.1 ∙ e)) k.2
 
   module _ (before : Id → Id → Bool) where
     pub has_right_stays : (i : Id) (c : Change E) (p : Parent) (f : Forest E) → has_right_child p f ≡ true → has_right_child p (change before i c f) ≡ true

@@ -1,5 +1,7 @@
 -- Two changes that do not name one another can be applied in either order.
 use Rattle.std.proofs.Common.{◌≡◌, Bool, true, false, cond, not, ◌&&◌, ◌⊎◌, sym, refl, ap, ◌∙◌, inl, inr}
+use Rattle.std.proofs.Math.Bool.{and_assoc, and_comm}
+use Rattle.std.proofs.lemmas.Bool.{both_ways, cases_Bool, false_from_ne_true}
 use Rattle.edits.specs.declared.id.Id.{Id}
 use Rattle.edits.specs.declared.edit.Side.{Side}
 use Rattle.edits.specs.declared.edit.Side.TheVariants.{Left, Right}
@@ -7,11 +9,11 @@ use Rattle.edits.specs.declared.edit.Parent.TheVariants as parent
 use Rattle.edits.specs.Ids.{same}
 use Rattle.order.specs.Edits.{Order, Change, insertion, deletion}
 use Rattle.order.specs.Forests.{Entry, Forest, nil, node, fresh, hide, bury, join, adopt, hang, change}
-use Rattle.order.proofs.Ids.{either, not_both, not_true, same_apart}
+use Rattle.order.proofs.Ids.{same_apart}
 use Rattle.order.proofs.Nodes.{hide_other}
 
 not_back : {before : Id → Id → Bool} → Order before → (a b : Id) → before a b ≡ true → before b a ≡ false
-not_back {before} O a b t = not_true (before b a) (λ u. O.irreflexive a (O.transitive a b a t u))
+not_back {before} O a b t = false_from_ne_true (before b a) (λ u. O.irreflexive a (O.transitive a b a t u))
 
 on_left : Bool → Side → Bool
 on_left b Left = b
@@ -25,18 +27,18 @@ module _ {E : Type 0} {before : Id → Id → Bool} (O : Order before) where
   join_earlier : (a b : Entry E) → before a.id b.id ≡ true → (f : Forest E)
       → join before a (join before b f) ≡ join before b (join before a f)
   join_earlier a b t nil = rw (t, not_back O a.id b.id t) refl
-  join_earlier a b t (node x l r n) = go (either (before a.id x.id)) (either (before b.id x.id)) (join_earlier a b t n)
+  join_earlier a b t (node x l r n) = go (cases_Bool (before a.id x.id)) (cases_Bool (before b.id x.id)) (join_earlier a b t n)
     where
       go : (before a.id x.id ≡ true) ⊎ (before a.id x.id ≡ false) → (before b.id x.id ≡ true) ⊎ (before b.id x.id ≡ false)
           → join before a (join before b n) ≡ join before b (join before a n)
           → join before a (join before b (node x l r n)) ≡ join before b (join before a (node x l r n))
       go (inl p) (inl q) ih = rw (p, q, t, not_back O a.id b.id t) refl
       go (inl p) (inr q) ih = rw (p, q, p, not_back O a.id b.id t) refl
-      go (inr p) (inl q) ih = absurd (not_both (O.transitive a.id b.id x.id t q) p)
+      go (inr p) (inl q) ih = absurd (both_ways _ p (O.transitive a.id b.id x.id t q))
       go (inr p) (inr q) ih = rw (p, q, p) (ap (node x l r) ih)
 
   join_join : (a b : Entry E) → (a.id ≡ b.id → ⊥) → (f : Forest E) → join before a (join before b f) ≡ join before b (join before a f)
-  join_join a b ne f = go (either (before a.id b.id))
+  join_join a b ne f = go (cases_Bool (before a.id b.id))
     where
       go : (before a.id b.id ≡ true) ⊎ (before a.id b.id ≡ false) → join before a (join before b f) ≡ join before b (join before a f)
       go (inl t) = join_earlier a b t f
@@ -140,11 +142,7 @@ module _ {E : Type 0} (before : Id → Id → Bool) where
 
 -- two tests after another
 and_and : (a b c : Bool) → ((a && b) && c) ≡ ((a && c) && b)
-and_and true true true = refl
-and_and true true false = refl
-and_and true false true = refl
-and_and true false false = refl
-and_and false b c = refl
+and_and a b c = and_assoc a b c ∙ ap (λ (d : Bool). a && d) (and_comm b c) ∙ sym (and_assoc a c b)
 
 module _ {E : Type 0} where
   bury_bury : (t u : Id) (f : Forest E) → bury t (bury u f) ≡ bury u (bury t f)

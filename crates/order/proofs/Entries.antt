@@ -1,7 +1,8 @@
 -- The entries of the tree of a history: which there are, which of them are shown, and in which order.
 use Rattle.std.proofs.Common.{◌≡◌, Bool, true, false, cond, not, ◌&&◌, ◌||◌, ◌⊎◌, List, [], ◌∷◌, ◌++◌, map, sym, refl, ap, ◌∙◌, subst, inl, inr}
-use mathlib.Core.Bool.{false≢true}
-use Rattle.std.proofs.lemmas.List.{map-append}
+use mathlib.Core.List.{map-map}
+use Rattle.std.proofs.lemmas.Bool.{false≢true, false_from_ne_true, and_parts, or_cases}
+use Rattle.std.proofs.Math.Bool.{or-false}
 use Rattle.edits.specs.declared.id.Id.{Id}
 use Rattle.edits.specs.declared.edit.Side.{Side}
 use Rattle.edits.specs.declared.edit.Parent.{Parent}
@@ -10,20 +11,24 @@ use Rattle.edits.specs.Ids.{same}
 use Rattle.order.specs.Lists.{◌∈◌, here, there, ◌∉◌, ◌⊆◌, keep}
 use Rattle.order.specs.Edits.{Change, insertion, deletion, Edit, Refers, Lawful, is_insertion, Order}
 use Rattle.order.specs.Forests.{Entry, Forest, read, is_shown, entry_id, ids, fresh, hide, apply, grown, tree, visible}
-use Rattle.order.specs.Histories.{edit_id, edit_ids, Next, History, empty, more, inserted, deletes, deleted, stands, as_shown, standing}
-use Rattle.order.proofs.Ids.{not_true, and_true, or_true, or_nothing, not_or, same_eq, same_refl}
-use Rattle.order.proofs.Lists.{any_true, true_any, any_append, in_left, in_last, of_map, in_nil, keep_alike, keep_map, Distinct, distinct_append}
-use Rattle.order.proofs.Growing.{Grew, Effect, of_grew, grew_keep, effect, effect_distinct, effect_ids, map_hide}
-use Rattle.order.proofs.Histories.{tree_snoc, in_ids, ids_old}
+use Rattle.order.specs.Histories.{edit_ids, Next, History, empty, more, inserted, deletes, deleted, stands, as_shown, standing}
+use Rattle.order.proofs.Ids.{same_eq, same_refl}
+use Rattle.order.proofs.Lists.{any_true, true_any, any_append, in_left, in_last, of_map, keep_alike, keep_map, Distinct}
+use Rattle.order.proofs.Growing.{Grew, Effect, of_grew, grew_keep, effect, effect_distinct, effect_ids}
+use Rattle.order.proofs.Histories.{tree_snoc, in_ids, ids_old, distinct_ids_snoc}
 use Rattle.order.proofs.Reordering.{rest_of, rest_new, rest_distinct, tree_from_part}
+
+not_or : (a b : Bool) → not (a || b) ≡ (not a && not b)
+not_or true b = refl
+not_or false b = refl
 
 module _ {E : Type 0} where
   deleted_snoc : (h : List (Edit E)) (e : Edit E) (a : Id) → deleted (h ++ (e ∷ [])) a ≡ (deleted h a || deletes e.change a)
-  deleted_snoc h e a = any_append (λ (d : Edit E). deletes d.change a) h (e ∷ []) ∙ ap (λ (b : Bool). deleted h a || b) (or_nothing (deletes e.change a))
+  deleted_snoc h e a = any_append (λ (d : Edit E). deletes d.change a) h (e ∷ []) ∙ ap (λ (b : Bool). deleted h a || b) (or-false (deletes e.change a))
 
   pub inserted_in : (h : List (Edit E)) (a : Id) → inserted h a ≡ true → (e : Edit E) × (e ∈ h) × (e.id ≡ a) × (is_insertion e.change ≡ true)
   inserted_in h a t = let u = any_true (λ (e : Edit E). is_insertion e.change && same e.id a) h t in
-      let v = and_true (is_insertion u.0.change) (same u.0.id a) u.2 in (u.0, u.1, same_eq u.0.id a v.1, v.0)
+      let v = and_parts (is_insertion u.0.change) (same u.0.id a) u.2 in (u.0, u.1, same_eq u.0.id a v.1, v.0)
 
   inserted_last : (h : List (Edit E)) (e : Edit E) → is_insertion e.change ≡ true → inserted (h ++ (e ∷ [])) e.id ≡ true
   inserted_last h e t = true_any (λ (d : Edit E). is_insertion d.change && same d.id e.id) (h ++ (e ∷ [])) (in_last h e) (rw (t, same_refl e.id) refl)
@@ -43,7 +48,7 @@ module _ {E : Type 0} where
   pub entry_edit : {before : Id → Id → Bool} {h : List (Edit E)} → Entries before h → ids (tree before h) ⊆ edit_ids h
   entry_edit {before} {h} S a m = let u = of_map entry_id (read (tree before h)) m in
       let v = inserted_in h u.0.id (S.inserted u.0 u.1) in
-      subst (λ (b : Id). b ∈ edit_ids h) (v.2 ∙ u.2) (in_ids h v.1)
+      rw⁻¹ (v.2 ∙ u.2) (in_ids h v.1)
 
   module _ (before : Id → Id → Bool) (h : List (Edit E)) (S : Entries before h) (e : Edit E) (l : Lawful e) (n : Next h e) where
     f : Forest E
@@ -55,7 +60,7 @@ module _ {E : Type 0} where
 
     -- the new entry is not deleted
     unmarked : deleted h e.id ≡ false
-    unmarked = not_true (deleted h e.id) (λ t. n.new (S.marked e.id t))
+    unmarked = false_from_ne_true (deleted h e.id) (λ t. n.new (S.marked e.id t))
 
     -- what an entry of the larger tree is to be
     Good : Entry E → Type 0
@@ -66,7 +71,7 @@ module _ {E : Type 0} where
     old none y m = (
       inserted_more h e y.id (S.inserted y m),
       S.shown y m
-          ∙ ap not (sym (deleted_snoc h e y.id ∙ ap (λ (b : Bool). deleted h y.id || b) (none y.id) ∙ or_nothing (deleted h y.id))),
+          ∙ ap not (sym (deleted_snoc h e y.id ∙ ap (λ (b : Bool). deleted h y.id || b) (none y.id) ∙ or-false (deleted h y.id))),
     )
 
     module _ (p : Parent) (s : Side) (x : E) (q : e.change ≡ insertion p s x) where
@@ -82,14 +87,14 @@ module _ {E : Type 0} where
         where
           go : (y ∈ read f) ⊎ (y ≡ fresh e.id x) → Good y
           go (inl k) = old keeps y k
-          go (inr r) = subst Good (sym r) added
+          go (inr r) = rw r added
 
     good : (c : Change E) → e.change ≡ c → (ys : List (Entry E)) → Effect e.id c (read f) ys → (y : Entry E) → y ∈ ys → Good y
     unfolding Good f
     good (insertion parent.Start s x) q ys g y m = good_grew parent.Start s x q g y m
-    good (insertion (parent.Entry p) s x) q ys (inl u) y m = old (keeps (parent.Entry p) s x q) y (subst (λ (zs : List (Entry E)). y ∈ zs) u.0 m)
+    good (insertion (parent.Entry p) s x) q ys (inl u) y m = old (keeps (parent.Entry p) s x q) y (rw⁻¹ u.0 m)
     good (insertion (parent.Entry p) s x) q ys (inr u) y m = good_grew (parent.Entry p) s x q u.0 y m
-    good (deletion t) q ys u y m = let v = of_map (hide t) (read f) (subst (λ (zs : List (Entry E)). y ∈ zs) u m) in subst Good v.2 (hidden v.0 v.1)
+    good (deletion t) q ys u y m = let v = of_map (hide t) (read f) (subst (λ (zs : List (Entry E)). y ∈ zs) u m) in rw⁻¹ v.2 (hidden v.0 v.1)
       where
         hidden : (z : Entry E) → z ∈ read f → Good (hide t z)
         hidden z k = (
@@ -101,22 +106,22 @@ module _ {E : Type 0} where
 
     target : (c : Change E) → Refers e.clock c → (a : Id) → deletes c a ≡ true → a ∈ edit_ids h
     target (insertion p s x) r a t = absurd (false≢true t)
-    target (deletion u) r a t = subst (λ (b : Id). b ∈ edit_ids h) (sym (same_eq a u t)) (n.covered u r)
+    target (deletion u) r a t = rw (same_eq a u t) (n.covered u r)
 
     entries_more : Entries before (h ++ (e ∷ []))
     unfolding f Good
     entries_more = record {
-      distinct = subst (λ (g : Forest E). Distinct (ids g)) (sym (tree_snoc before h e)) (effect_distinct e.id e.change (read f) _ F new S.distinct);
+      distinct = rw (tree_snoc before h e) (effect_distinct e.id e.change (read f) _ F new S.distinct);
       inserted = λ y m. (all y m).0;
       shown = λ y m. (all y m).1;
-      marked = λ a t. mark a (or_true (deleted h a) (deletes e.change a) (sym (deleted_snoc h e a) ∙ t));
+      marked = λ a t. mark a (or_cases (deleted h a) (deletes e.change a) (sym (deleted_snoc h e a) ∙ t));
     }
       where
         F : Effect e.id e.change (read f) (read (apply before e f))
         F = effect before e.id e.change f S.distinct
 
         all : (y : Entry E) → y ∈ read (tree before (h ++ (e ∷ []))) → Good y
-        all y m = good e.change refl (read (apply before e f)) F y (subst (λ (g : Forest E). y ∈ read g) (tree_snoc before h e) m)
+        all y m = good e.change refl (read (apply before e f)) F y (rw⁻¹ (tree_snoc before h e) m)
 
         mark : (a : Id) → (deleted h a ≡ true) ⊎ (deletes e.change a ≡ true) → a ∈ edit_ids (h ++ (e ∷ []))
         mark a (inl t) = ids_old h e (S.marked a t)
@@ -128,12 +133,7 @@ module _ {E : Type 0} where
 
   pub distinct_ids : {h : List (Edit E)} → History h → Distinct (edit_ids h)
   distinct_ids empty = tt
-  distinct_ids (more {h} e H l n) = subst Distinct (sym (map-append edit_id h (e ∷ [])))
-      (distinct_append (edit_ids h) (e.id ∷ []) (distinct_ids H) ((λ m. elim m [ ]), tt) apart)
-    where
-      apart : (a : Id) → a ∈ edit_ids h → a ∉ (e.id ∷ [])
-      apart a m (here p) = n.new (subst (λ (b : Id). b ∈ edit_ids h) p m)
-      apart a m (there k) = in_nil k
+  distinct_ids (more {h} e H l n) = distinct_ids_snoc h e (distinct_ids H) n.new
 
   -- one order: what later edits bring in, a filter by identifiers can leave out again
   module _ (before : Id → Id → Bool) (test : Id → Bool) where
@@ -149,7 +149,7 @@ module _ {E : Type 0} where
     effect_passing a (insertion (parent.Entry p) s x) xs ys t (inl u) = ap passing u.0
     effect_passing a (insertion (parent.Entry p) s x) xs ys t (inr u) = ap (map as_shown) (grew_keep u.0 passes t)
     effect_passing a (deletion u) xs ys t q = ap passing q
-        ∙ ap (map as_shown) (keep_map (hide u) passes xs) ∙ map_hide as_shown u (λ x. refl) (keep passes xs)
+        ∙ ap (map as_shown) (keep_map (hide u) passes xs) ∙ map-map as_shown (hide u) (keep passes xs)
 
     grown_passing : (f : Forest E) (r : List (Edit E)) → Distinct (ids f) → Distinct (edit_ids r) → ((a : Id) → a ∈ edit_ids r → a ∉ ids f)
         → ((a : Id) → a ∈ edit_ids r → test a ≡ false) → passing (read (grown before f r)) ≡ passing (read f)
@@ -167,7 +167,7 @@ module _ {E : Type 0} where
           where
             go : (a ∈ ids f) ⊎ (a ≡ e.id) → ⊥
             go (inl i) = out a (there m) i
-            go (inr p) = dr.0 (subst (λ (b : Id). b ∈ edit_ids r) p m)
+            go (inr p) = dr.0 (rw⁻¹ p m)
 
   all_shown : (xs : List (Entry E)) → map as_shown (keep is_shown xs) ≡ keep is_shown xs
   all_shown [] = refl
@@ -198,5 +198,5 @@ part_in_order {E} {before} O {h} {all} H A sub =
     alike y m = S.shown y m ∙ sym (ap (λ (b : Bool). b && not (deleted h y.id)) (S.inserted y m))
 
     fails : (a : Id) → a ∈ edit_ids (rest_of h all) → test a ≡ false
-    fails a m = not_true (test a) (λ t. let u = inserted_in h a (and_true (inserted h a) (not (deleted h a)) t).0 in
-        rest_new h all a m (subst (λ (b : Id). b ∈ edit_ids h) u.2 (in_ids h u.1)))
+    fails a m = false_from_ne_true (test a) (λ t. let u = inserted_in h a (and_parts (inserted h a) (not (deleted h a)) t).0 in
+        rest_new h all a m (rw⁻¹ u.2 (in_ids h u.1)))

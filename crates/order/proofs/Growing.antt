@@ -1,15 +1,16 @@
 -- What a change does to the entries in reading order: one more somewhere, one hidden, or nothing.
-use Rattle.std.proofs.Common.{◌≡◌, suc, Bool, true, false, cond, ◌⊎◌, List, [], ◌∷◌, ◌++◌, map, length, sym, refl, ap, ◌∙◌, subst, inl, inr}
+use Rattle.std.proofs.Common.{◌≡◌, suc, Bool, true, false, cond, ◌⊎◌, List, [], ◌∷◌, ◌++◌, map, length, sym, refl, ap, ◌∙◌, inl, inr}
+use mathlib.Core.List.{map-map}
+use Rattle.std.proofs.lemmas.Bool.{both_ways, cases_Bool}
 use Rattle.edits.specs.declared.id.Id.{Id}
 use Rattle.edits.specs.declared.edit.Side.{Side}
 use Rattle.edits.specs.declared.edit.Side.TheVariants.{Left, Right}
 use Rattle.edits.specs.declared.edit.Parent.TheVariants as parent
-use Rattle.edits.specs.Ids.{same}
 use Rattle.order.specs.Lists.{◌∈◌, here, there, ◌∉◌, keep}
 use Rattle.order.specs.Edits.{Change, insertion, deletion}
 use Rattle.order.specs.Forests.{Entry, Forest, nil, node, read, entry_id, ids, fresh, hide, join, adopt, hang, change}
-use Rattle.order.proofs.Ids.{either, not_both, same_apart, eq_same}
-use Rattle.order.proofs.Lists.{in_nil, is_in, is_in_true, of_is_in, Distinct}
+use Rattle.order.proofs.Ids.{same_apart, eq_same}
+use Rattle.order.proofs.Lists.{is_in, is_in_true, of_is_in, none_of, Distinct}
 use Rattle.order.proofs.Nodes.{Place, it, lefts, rights, nexts, place, placed, Apart, apart, read_bury}
 
 -- ys is xs with e put in once
@@ -82,7 +83,7 @@ module _ {E : Type 0} (before : Id → Id → Bool) where
       (hang_absent p s e n (λ m. no-p (placed x l r n (nexts m))) i))
 
   hang_grew : (p : Id) (s : Side) (e : Entry E) (f : Forest E) → Distinct (ids f) → p ∈ ids f → Grew e (read f) (read (hang before p s e f))
-  hang_grew p s e nil d m = absurd (in_nil m)
+  hang_grew p s e nil d m = elim m [ ]
   hang_grew p s e (node x l r n) d m = go (place x l r n m)
       (hang_grew p s e l A.in_lefts) (hang_grew p s e r A.in_rights) (hang_grew p s e n A.in_nexts)
     where
@@ -96,11 +97,8 @@ module _ {E : Type 0} (before : Id → Id → Bool) where
       taken Left = grew_after (x ∷ (read r ++ read n)) (join_grew e l)
       taken Right = grew_before (read l) (grew_there x (grew_after (read n) (join_grew e r)))
 
-      other : (f : Forest E) → p ∈ ids f → x.id ∉ ids f → same x.id p ≡ false
-      other f k no-x = same_apart x.id p (λ q. no-x (subst (λ (a : Id). a ∈ ids f) (sym q) k))
-
       not_it : (f : Forest E) → p ≡ x.id → x.id ∉ ids f → p ∉ ids f
-      not_it f q no-x k = no-x (subst (λ (a : Id). a ∈ ids f) q k)
+      not_it f q no-x k = no-x (rw⁻¹ q k)
 
       go : Place p x l r n → Step l → Step r → Step n → Grew e (read (node x l r n)) (read (hang before p s e (node x l r n)))
       go (it q) L R N = rw (
@@ -109,38 +107,34 @@ module _ {E : Type 0} (before : Id → Id → Bool) where
         hang_absent p s e r (not_it r q A.it_rights),
         hang_absent p s e n (not_it n q A.it_nexts),
       ) (taken s)
-      go (lefts k) L R N = rw (other l k A.it_lefts, hang_absent p s e r (A.lefts_rights k), hang_absent p s e n (A.lefts_nexts k))
+      go (lefts k) L R N = rw (none_of x.id (ids l) A.it_lefts p k, hang_absent p s e r (A.lefts_rights k), hang_absent p s e n (A.lefts_nexts k))
           (grew_after (x ∷ (read r ++ read n)) (L k))
-      go (rights k) L R N = rw (other r k A.it_rights, hang_absent p s e l (λ m. A.lefts_rights m k), hang_absent p s e n (A.rights_nexts k))
+      go (rights k) L R N = rw (none_of x.id (ids r) A.it_rights p k, hang_absent p s e l (λ m. A.lefts_rights m k), hang_absent p s e n (A.rights_nexts k))
           (grew_before (read l) (grew_there x (grew_after (read n) (R k))))
-      go (nexts k) L R N = rw (other n k A.it_nexts, hang_absent p s e l (λ m. A.lefts_nexts m k), hang_absent p s e r (λ m. A.rights_nexts m k))
+      go (nexts k) L R N = rw (none_of x.id (ids n) A.it_nexts p k, hang_absent p s e l (λ m. A.lefts_nexts m k), hang_absent p s e r (λ m. A.rights_nexts m k))
           (grew_before (read l) (grew_there x (grew_before (read r) (N k))))
 
   pub effect : (a : Id) (c : Change E) (f : Forest E) → Distinct (ids f) → Effect a c (read f) (read (change before a c f))
   effect a (insertion parent.Start s x) f d = join_grew (fresh a x) f
-  effect a (insertion (parent.Entry p) s x) f d = go (either (is_in (ids f) p))
+  effect a (insertion (parent.Entry p) s x) f d = go (cases_Bool (is_in (ids f) p))
     where
       go : (is_in (ids f) p ≡ true) ⊎ (is_in (ids f) p ≡ false) → Effect a (insertion (parent.Entry p) s x) (read f) (read (hang before p s (fresh a x) f))
       go (inl t) = let m = of_is_in (ids f) p t in inr (hang_grew p s (fresh a x) f d m, m)
-      go (inr t) = let no-p : p ∉ ids f = λ m. not_both (is_in_true (ids f) p m) t in inl (ap read (hang_absent p s (fresh a x) f no-p), no-p)
+      go (inr t) = let no-p : p ∉ ids f = λ m. both_ways _ t (is_in_true (ids f) p m) in inl (ap read (hang_absent p s (fresh a x) f no-p), no-p)
   effect a (deletion t) f d = read_bury t f
 
 module _ {E : Type 0} where
-  pub map_hide : {B : Type 0} (g : Entry E → B) (t : Id) → ((x : Entry E) → g (hide t x) ≡ g x) → (xs : List (Entry E)) → map g (map (hide t) xs) ≡ map g xs
-  map_hide g t same-value [] = refl
-  map_hide g t same-value (x ∷ xs) = λ i. same-value x i ∷ map_hide g t same-value xs i
-
   -- identifiers stay apart
   pub effect_distinct : (a : Id) (c : Change E) (xs ys : List (Entry E)) → Effect a c xs ys → a ∉ map entry_id xs → Distinct (map entry_id xs)
       → Distinct (map entry_id ys)
   effect_distinct a (insertion parent.Start s x) xs ys g new d = grew_distinct (grew_map entry_id g) new d
-  effect_distinct a (insertion (parent.Entry p) s x) xs ys (inl h) new d = subst (λ (zs : List (Entry E)). Distinct (map entry_id zs)) (sym h.0) d
+  effect_distinct a (insertion (parent.Entry p) s x) xs ys (inl h) new d = rw h.0 d
   effect_distinct a (insertion (parent.Entry p) s x) xs ys (inr h) new d = grew_distinct (grew_map entry_id h.0) new d
-  effect_distinct a (deletion t) xs ys h new d = subst Distinct (sym (ap (map entry_id) h ∙ map_hide entry_id t (λ x. refl) xs)) d
+  effect_distinct a (deletion t) xs ys h new d = rw (ap (map entry_id) h ∙ map-map entry_id (hide t) xs) d
 
   -- no identifier but that of the edit is new
   pub effect_ids : (a : Id) (c : Change E) (xs ys : List (Entry E)) → Effect a c xs ys → (b : Id) → b ∈ map entry_id ys → (b ∈ map entry_id xs) ⊎ (b ≡ a)
   effect_ids a (insertion parent.Start s x) xs ys g b m = of_grew (grew_map entry_id g) b m
-  effect_ids a (insertion (parent.Entry p) s x) xs ys (inl h) b m = inl (subst (λ (zs : List (Entry E)). b ∈ map entry_id zs) h.0 m)
+  effect_ids a (insertion (parent.Entry p) s x) xs ys (inl h) b m = inl (rw⁻¹ h.0 m)
   effect_ids a (insertion (parent.Entry p) s x) xs ys (inr h) b m = of_grew (grew_map entry_id h.0) b m
-  effect_ids a (deletion t) xs ys h b m = inl (subst (λ (zs : List Id). b ∈ zs) (ap (map entry_id) h ∙ map_hide entry_id t (λ x. refl) xs) m)
+  effect_ids a (deletion t) xs ys h b m = inl (rw⁻¹ (ap (map entry_id) h ∙ map-map entry_id (hide t) xs) m)

@@ -1,6 +1,6 @@
 -- The rule of insertion puts an entry right after its left neighbour in reading order.
 use Rattle.std.proofs.Common.{◌≡◌, Bool, true, false, ◌⊎◌, List, [], ◌∷◌, ◌++◌, Some, sym, refl, ap, ◌∙◌, inl, inr, append-nil}
-use mathlib.Core.Bool.{false≢true}
+use Rattle.std.proofs.lemmas.Bool.{false≢true, both_ways, cases_Bool, false_from_ne_true}
 use Rattle.edits.specs.declared.id.Id.{Id}
 use Rattle.edits.specs.declared.edit.Side.{Side}
 use Rattle.edits.specs.declared.edit.Side.TheVariants.{Left, Right}
@@ -8,7 +8,7 @@ use Rattle.edits.specs.declared.edit.Parent.TheVariants as parent
 use Rattle.edits.specs.Ids.{same}
 use Rattle.order.specs.Forests.{Entry, Forest, nil, node, read, ids, fresh, adopt, hang, change}
 use Rattle.order.specs.Placing.{first, after, is_node, has_right, insertion_after}
-use Rattle.order.proofs.Ids.{either, not_both, not_true, same_eq}
+use Rattle.order.proofs.Ids.{same_eq}
 use Rattle.order.proofs.Lists.{Distinct}
 use Rattle.order.proofs.Nodes.{placed, it}
 use Rattle.order.proofs.Beside.{first_some, none_before_first, none_between_after, beside_one, beside, beside_append, beside_first, beside_after}
@@ -43,7 +43,7 @@ module _ {E : Type 0} (before : Id → Id → Bool) where
   read_hang : (a : Id) (s : Side) (e : Entry E) (f : Forest E) → Bare a s f → read (hang before a s e f) ≡ beside a s e (read f)
   read_hang a s e nil b = refl
   read_hang a s e (node x l r n) b =
-      read_adopt (same x.id a) s a e x l r n (λ t. not_true (is_node (side_of s l r))
+      read_adopt (same x.id a) s a e x l r n (λ t. false_from_ne_true (is_node (side_of s l r))
       (λ h. let k = node_has (side_of s l r) h in b k.0 (inl (same_eq x.id a t, k.1))))
       ∙ (λ i. read_hang a s e l (λ c u. b c (inr (inl u))) i ++ beside_one (same x.id a) s e x
       (read_hang a s e r (λ c u. b c (inr (inr (inl u)))) i ++ read_hang a s e n (λ c u. b c (inr (inr (inr u)))) i))
@@ -61,10 +61,10 @@ module _ {E : Type 0} (before : Id → Id → Bool) where
   -- an insertion after an entry stands right after it
   pub inserted_after : (f : Forest E) → Distinct (ids f) → (b a : Id) (x : E)
       → read (change before a (insertion_after (parent.Entry b) x f) f) ≡ beside b Right (fresh a x) (read f)
-  inserted_after f d b a x = go (either (has_right b f))
+  inserted_after f d b a x = go (cases_Bool (has_right b f))
     where
       go : (has_right b f ≡ true) ⊎ (has_right b f ≡ false)
           → read (change before a (insertion_after (parent.Entry b) x f) f) ≡ beside b Right (fresh a x) (read f)
       go (inl t) = let k = followed b f d t in
           rw (t, k.1) (read_hang k.0 Left (fresh a x) f (follower_bare b k.0 f d k.1 k.2) ∙ beside_after k.0 b (fresh a x) (read f) d k.1)
-      go (inr t) = rw t (read_hang b Right (fresh a x) f (λ c u. not_both (below_right b f c u) t))
+      go (inr t) = rw t (read_hang b Right (fresh a x) f (λ c u. both_ways _ t (below_right b f c u)))

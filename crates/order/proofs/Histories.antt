@@ -1,20 +1,16 @@
 -- What holds of every history: lawful edits, each after all that its clock covers.
-use Rattle.std.proofs.Common.{◌≡◌, ℕ, zero, suc, ◌+◌, ◌≤◌, Bool, true, false, eqb, leb, ◌⊎◌, List, [], ◌∷◌, ◌++◌, sym, refl, ap, ◌∙◌, subst, inl, inr, arith}
-use mathlib.Core.Bool.{false≢true}
-use Rattle.std.proofs.lemmas.List.{map-append}
+use Rattle.std.proofs.Common.{◌≡◌, ℕ, zero, suc, ◌+◌, ◌<◌, ◌≤◌, Bool, ◌⊎◌, List, [], ◌∷◌, ◌++◌, sym, refl, ap, ◌∙◌, inl, inr, arith, eq-eqb, ne_eqb}
+use Rattle.std.proofs.lemmas.Bool.{cases_eq, cases_lt}
+use Rattle.std.proofs.lemmas.List.{map_push}
 use Rattle.edits.specs.declared.id.Id.{Id}
-use Rattle.order.specs.Lists.{◌∈◌, ◌⊆◌}
-use Rattle.order.specs.Edits.{Edit, Covers, Lawful}
+use Rattle.order.specs.Lists.{◌∈◌, ◌∉◌, ◌⊆◌}
+use Rattle.order.specs.Edits.{Clock, Edit, Covers, Lawful}
 use Rattle.order.specs.Forests.{Forest, nil, apply, grown, tree}
 use Rattle.order.specs.Histories.{edit_id, edit_ids, count, Next, History, empty, more}
-use Rattle.order.proofs.Ids.{either, id_eq, eqb_eq, eqb_same, eqb_apart, leb_le, leb_lt}
-use Rattle.order.proofs.Lists.{in_left, in_last, in_snoc, in_map, of_map}
+use Rattle.order.proofs.Ids.{id_eq}
+use Rattle.order.proofs.Lists.{in_left, in_last, in_snoc, each_snoc, in_map, of_map, Distinct, distinct_snoc}
 
 module _ {E : Type 0} where
-  -- one more edit at the end
-  pub snoc : List (Edit E) → Edit E → List (Edit E)
-  snoc h e = h ++ (e ∷ [])
-
   pub grown_append : (before : Id → Id → Bool) (f : Forest E) (h k : List (Edit E)) → grown before f (h ++ k) ≡ grown before (grown before f h) k
   grown_append before f [] k = refl
   grown_append before f (e ∷ h) k = grown_append before (apply before e f) h k
@@ -29,34 +25,27 @@ module _ {E : Type 0} where
   of_ids h m = of_map edit_id h m
 
   pub ids_sub : (h k : List (Edit E)) → h ⊆ k → edit_ids h ⊆ edit_ids k
-  ids_sub h k sub a m = let u = of_ids h m in subst (λ (b : Id). b ∈ edit_ids k) u.2 (in_ids k (sub u.0 u.1))
+  ids_sub h k sub a m = let u = of_ids h m in rw⁻¹ u.2 (in_ids k (sub u.0 u.1))
 
   pub ids_old : (h : List (Edit E)) (e : Edit E) {a : Id} → a ∈ edit_ids h → a ∈ edit_ids (h ++ (e ∷ []))
   ids_old h e {a} m = ids_sub h (h ++ (e ∷ [])) (λ d k. in_left h (e ∷ []) k) a m
 
   pub ids_snoc : (h : List (Edit E)) (e : Edit E) {a : Id} → a ∈ edit_ids (h ++ (e ∷ [])) → (a ∈ edit_ids h) ⊎ (a ≡ e.id)
-  ids_snoc h e {a} m = in_snoc (edit_ids h) e.id (subst (λ (l : List Id). a ∈ l) (map-append edit_id h (e ∷ [])) m)
+  ids_snoc h e {a} m = in_snoc (edit_ids h) e.id (rw⁻¹ (map_push edit_id h e) m)
 
   -- an edit does not cover itself
   pub not_own : (e : Edit E) → Lawful e → Covers e.clock e.id → ⊥
-  not_own e l c = let own = l.own in let le = c.1 in omega (arith, own, le)
+  not_own e l c = omega arith
 
   pub lawful_in : {h : List (Edit E)} → History h → (d : Edit E) → d ∈ h → Lawful d
-  lawful_in empty d m = elim m [ ]
-  lawful_in (more {h} e H l n) d m = go (in_snoc h e m) (lawful_in H d)
-    where
-      go : (d ∈ h) ⊎ (d ≡ e) → (d ∈ h → Lawful d) → Lawful d
-      go (inl k) ih = ih k
-      go (inr p) ih = subst Lawful (sym p) l
+  lawful_in empty = λ d m. elim m [ ]
+  lawful_in (more {h} e H l n) = each_snoc Lawful h e (lawful_in H) l
 
   -- what an edit of the history covers is in the history
   pub covered_in : {h : List (Edit E)} → History h → (d : Edit E) → d ∈ h → (a : Id) → Covers d.clock a → a ∈ edit_ids h
-  covered_in empty d m a c = elim m [ ]
-  covered_in (more {h} e H l n) d m a c = go (in_snoc h e m) (covered_in H d)
-    where
-      go : (d ∈ h) ⊎ (d ≡ e) → (d ∈ h → (b : Id) → Covers d.clock b → b ∈ edit_ids h) → a ∈ edit_ids (h ++ (e ∷ []))
-      go (inl k) ih = ids_old h e (ih k a c)
-      go (inr p) ih = ids_old h e (n.covered a (subst (λ (b : Edit E). Covers b.clock a) p c))
+  covered_in empty = λ d m. elim m [ ]
+  covered_in (more {h} e H l n) = each_snoc (λ (d : Edit E). (a : Id) → Covers d.clock a → a ∈ edit_ids (h ++ (e ∷ []))) h e
+      (λ d m a c. ids_old h e (covered_in H d m a c)) (λ a c. ids_old h e (n.covered a c))
 
   -- no identifier stands for two
   pub one_each : {h : List (Edit E)} → History h → (c d : Edit E) → c ∈ h → d ∈ h → c.id ≡ d.id → c ≡ d
@@ -65,76 +54,75 @@ module _ {E : Type 0} where
     where
       go : (c ∈ h) ⊎ (c ≡ e) → (d ∈ h) ⊎ (d ≡ e) → (c ∈ h → d ∈ h → c.id ≡ d.id → c ≡ d) → c ≡ d
       go (inl i) (inl j) ih = ih i j p
-      go (inl i) (inr j) ih = absurd (n.new (subst (λ (a : Id). a ∈ edit_ids h) (p ∙ ap edit_id j) (in_ids h i)))
-      go (inr i) (inl j) ih = absurd (n.new (subst (λ (a : Id). a ∈ edit_ids h) (sym p ∙ ap edit_id i) (in_ids h j)))
+      go (inl i) (inr j) ih = absurd (n.new (rw⁻¹ (p ∙ ap edit_id j) (in_ids h i)))
+      go (inr i) (inl j) ih = absurd (n.new (rw⁻¹ (sym p ∙ ap edit_id i) (in_ids h j)))
       go (inr i) (inr j) ih = i ∙ sym j
+
+  -- an edit of a history is in a part of it if its identifier is
+  pub in_part : {h k : List (Edit E)} → History h → k ⊆ h → (d : Edit E) → d ∈ h → d.id ∈ edit_ids k → d ∈ k
+  in_part {h} {k} H sub d m i = let u = of_ids k i in rw⁻¹ (one_each H u.0 d (sub u.0 u.1) m u.2) u.1
+
+  pub distinct_ids_snoc : (h : List (Edit E)) (e : Edit E) → Distinct (edit_ids h) → e.id ∉ edit_ids h → Distinct (edit_ids (h ++ (e ∷ [])))
+  distinct_ids_snoc h e d new = rw (map_push edit_id h e) (distinct_snoc (edit_ids h) e.id d new)
 
   -- counting
   count_append : (h k : List (Edit E)) (editor : ℕ) → count (h ++ k) editor ≡ count h editor + count k editor
   count_append [] k editor = omega arith
-  count_append (e ∷ h) k editor = let ih = count_append h k editor in omega (arith, ih)
+  count_append (e ∷ h) k editor = omega (arith, count_append h k editor)
 
   pub count_own : (h : List (Edit E)) (e : Edit E) → count (h ++ (e ∷ [])) e.id.editor ≡ suc (count h e.id.editor)
   count_own h e = let s = count_append h (e ∷ []) e.id.editor in
-      let one : count (e ∷ []) e.id.editor ≡ 1 = rw (eqb_same e.id.editor) (omega arith) in
-      omega (arith, s, one)
+      let one : count (e ∷ []) e.id.editor ≡ 1 = rw (eq-eqb e.id.editor e.id.editor refl) (omega arith) in
+      omega arith
 
   pub count_other : (h : List (Edit E)) (e : Edit E) (editor : ℕ) → (e.id.editor ≡ editor → ⊥) → count (h ++ (e ∷ [])) editor ≡ count h editor
   count_other h e editor ne = let s = count_append h (e ∷ []) editor in
-      let none : count (e ∷ []) editor ≡ 0 = rw (eqb_apart e.id.editor editor ne) (omega arith) in
-      omega (arith, s, none)
+      let none : count (e ∷ []) editor ≡ 0 = rw (ne_eqb e.id.editor editor ne) (omega arith) in
+      omega arith
 
   pub count_grows : (h : List (Edit E)) (e : Edit E) (editor : ℕ) → count h editor ≤ count (h ++ (e ∷ [])) editor
-  count_grows h e editor = let s = count_append h (e ∷ []) editor in omega (arith, s)
+  count_grows h e editor = omega (arith, count_append h (e ∷ []) editor)
 
   -- the edits of each editor in a history are numbered from 1 to their count
   pub record Counted (h : List (Edit E)) : Type 0 where
     pub within : (a : Id) → a ∈ edit_ids h → Covers (count h) a
     pub full : (a : Id) → Covers (count h) a → a ∈ edit_ids h
 
-  pub next_number : {h : List (Edit E)} → Counted h → (e : Edit E) → Lawful e → Next h e → e.id.number ≡ suc (count h e.id.editor)
-  next_number {h} C e l n = let own = l.own in go own (either (leb e.id.number (count h e.id.editor)))
+  -- a clock whose edits are all there counts no more
+  pub clock_within : {h : List (Edit E)} → Counted h → (clock : Clock) → ((a : Id) → Covers clock a → a ∈ edit_ids h) → (editor : ℕ) → clock editor ≤ count h editor
+  clock_within {h} C clock all editor = go (clock editor) refl
     where
-      last : (c : ℕ) → e.clock e.id.editor ≡ c → c ≤ count h e.id.editor
-      last zero p = omega arith
-      last (suc c) p = let a : Id = record { editor = e.id.editor; number = suc c } in (C.within a (n.covered a (omega (arith, p)))).1
+      go : (c : ℕ) → clock editor ≡ c → c ≤ count h editor
+      go zero p = omega arith
+      go (suc c) p = let a : Id = record { editor = editor; number = suc c } in (C.within a (all a (omega arith))).1
 
-      low : e.clock e.id.editor ≤ count h e.id.editor
-      low = last (e.clock e.id.editor) refl
-
-      go : suc (e.clock e.id.editor) ≡ e.id.number
-          → (leb e.id.number (count h e.id.editor) ≡ true) ⊎ (leb e.id.number (count h e.id.editor) ≡ false)
-          → e.id.number ≡ suc (count h e.id.editor)
-      go own (inl t) = absurd (n.new (C.full e.id (omega (arith, own), leb_le e.id.number (count h e.id.editor) t)))
-      go own (inr t) = let gt = leb_lt e.id.number (count h e.id.editor) t in omega (arith, own, gt, low)
+  pub next_number : {h : List (Edit E)} → Counted h → (e : Edit E) → Lawful e → Next h e → e.id.number ≡ suc (count h e.id.editor)
+  next_number {h} C e l n = elim (cases_lt (count h e.id.editor) e.id.number) [
+    | inl gt ↦ omega (arith, l.own, clock_within C e.clock n.covered e.id.editor)
+    | inr le ↦ absurd (n.new (C.full e.id (omega (arith, l.own), le)))
+  ]
 
   counted_more : {h : List (Edit E)} → Counted h → (e : Edit E) → e.id.number ≡ suc (count h e.id.editor) → Counted (h ++ (e ∷ []))
-  counted_more {h} C e num = record { within = λ a m. low a (ids_snoc h e m); full = λ a c. high a c (either (eqb e.id.editor a.editor)) }
+  counted_more {h} C e num = record { within = λ a m. low a (ids_snoc h e m); full = λ a c. high a c (cases_eq e.id.editor a.editor) }
     where
       low : (a : Id) → (a ∈ edit_ids h) ⊎ (a ≡ e.id) → Covers (count (h ++ (e ∷ []))) a
-      low a (inl m) = let c = C.within a m in let g = count_grows h e a.editor in omega (arith, c.0, c.1, g)
-      low a (inr p) = subst (Covers (count (h ++ (e ∷ [])))) (sym p) (let o = count_own h e in omega (arith, o, num))
+      low a (inl m) = omega (arith, C.within a m, count_grows h e a.editor)
+      low a (inr p) = rw p (omega (arith, count_own h e))
 
       last : (a : Id) → Covers (count (h ++ (e ∷ []))) a → e.id.editor ≡ a.editor
-          → (leb a.number (count h a.editor) ≡ true) ⊎ (leb a.number (count h a.editor) ≡ false) → a ∈ edit_ids (h ++ (e ∷ []))
-      last a c p (inl t) = ids_old h e (C.full a (c.0, leb_le a.number (count h a.editor) t))
-      last a c p (inr t) = subst (λ (b : Id). b ∈ edit_ids (h ++ (e ∷ []))) (id_eq e.id a p same_number) (in_ids (h ++ (e ∷ [])) (in_last h e))
+          → (count h a.editor < a.number) ⊎ (a.number ≤ count h a.editor) → a ∈ edit_ids (h ++ (e ∷ []))
+      last a c p (inr le) = ids_old h e (C.full a (c.0, le))
+      last a c p (inl gt) = rw⁻¹ (id_eq e.id a p same_number) (in_ids (h ++ (e ∷ [])) (in_last h e))
         where
           same_number : e.id.number ≡ a.number
-          same_number = let gt = leb_lt a.number (count h a.editor) t in
-              let o = count_own h e in
+          same_number = let o = count_own h e in
               let c₁ : count (h ++ (e ∷ [])) e.id.editor ≡ count (h ++ (e ∷ [])) a.editor = ap (count (h ++ (e ∷ []))) p in
               let c₂ : count h e.id.editor ≡ count h a.editor = ap (count h) p in
-              let le = c.1 in
-              omega (arith, gt, o, c₁, c₂, le, num)
+              omega arith
 
-      high : (a : Id) → Covers (count (h ++ (e ∷ []))) a → (eqb e.id.editor a.editor ≡ true) ⊎ (eqb e.id.editor a.editor ≡ false)
-          → a ∈ edit_ids (h ++ (e ∷ []))
-      high a c (inl t) = last a c (eqb_eq e.id.editor a.editor t) (either (leb a.number (count h a.editor)))
-      high a c (inr t) = ids_old h e (C.full a (c.0, subst (λ (n : ℕ). a.number ≤ n) (count_other h e a.editor (λ p. apart p)) c.1))
-        where
-          apart : e.id.editor ≡ a.editor → ⊥
-          apart p = false≢true (sym t ∙ subst (λ (n : ℕ). eqb e.id.editor n ≡ true) p (eqb_same e.id.editor))
+      high : (a : Id) → Covers (count (h ++ (e ∷ []))) a → (e.id.editor ≡ a.editor) ⊎ (e.id.editor ≡ a.editor → ⊥) → a ∈ edit_ids (h ++ (e ∷ []))
+      high a c (inl p) = last a c p (cases_lt (count h a.editor) a.number)
+      high a c (inr ne) = ids_old h e (C.full a (c.0, omega (arith, c.1, count_other h e a.editor ne)))
 
   pub counted : {h : List (Edit E)} → History h → Counted h
   counted empty = record { within = λ a m. elim m [ ]; full = λ a c. absurd (none a c.0 c.1) }
@@ -145,8 +133,4 @@ module _ {E : Type 0} where
 
   -- a part of a history counts no more
   pub count_part : {h k : List (Edit E)} → Counted h → Counted k → edit_ids h ⊆ edit_ids k → (editor : ℕ) → count h editor ≤ count k editor
-  count_part {h} {k} C D sub editor = go (count h editor) refl
-    where
-      go : (c : ℕ) → count h editor ≡ c → c ≤ count k editor
-      go zero p = omega arith
-      go (suc c) p = let a : Id = record { editor = editor; number = suc c } in (D.within a (sub a (C.full a (omega (arith, p))))).1
+  count_part {h} {k} C D sub = clock_within D (count h) (λ a c. sub a (C.full a c))

@@ -7,14 +7,14 @@ use Rattle.edits.specs.declared.edit.Side.TheVariants.{Left, Right}
 use Rattle.edits.specs.declared.edit.Parent.{Parent}
 use Rattle.edits.specs.declared.edit.Parent.TheVariants.{Entry}
 use Rattle.order.specs.Lists.{◌∈◌, here, there, ◌⊆◌, Before}
-use Rattle.order.specs.Edits.{Clock, Order, Change, insertion, Edit, Covers, Refers, is_insertion}
+use Rattle.order.specs.Edits.{Order, Change, insertion, Edit, Covers, Refers, is_insertion}
 use Rattle.order.specs.Forests.{Forest, ids, change, apply, grown, tree}
 use Rattle.order.specs.Placing.{after, follower, has_right, has_right_child, hung, insertion_after}
-use Rattle.order.specs.Histories.{edit_id, edit_ids, History, empty, more}
+use Rattle.order.specs.Histories.{edit_id, History, empty, more}
 use Rattle.order.specs.Systems.{Making, making_edit, edits_of, Reached}
 use Rattle.order.specs.Theorems.{Forward, Backward, InsertionsOf, TypedRun, Knew, Unbroken}
-use Rattle.order.proofs.Lists.{in_left, in_last, in_snoc, in_nil, in_map, of_map}
-use Rattle.order.proofs.Histories.{tree_snoc, in_ids, of_ids, covered_in, one_each, counted}
+use Rattle.order.proofs.Lists.{in_left, in_last, each_cons, sub_snoc, in_map, of_map}
+use Rattle.order.proofs.Histories.{tree_snoc, in_ids, covered_in, in_part, counted}
 use Rattle.order.proofs.Reordering.{rest_of, tree_from_part}
 use Rattle.order.proofs.Placing.{follower_in}
 use Rattle.order.proofs.Under.{Under, under_stays, under_new, under_deep, under_was}
@@ -34,17 +34,12 @@ module _ {E : Type 0} (before : Id → Id → Bool) where
   -- it holds in the tree of a history if it holds in that of a part
   part_keeps : Order before → (P : Forest E → Type 0) → Stays P → {h k : List (Edit E)} → History h → History k → h ⊆ k
       → P (tree before h) → P (tree before k)
-  part_keeps O P stays {h} {k} H K sub p = subst P (sym (tree_from_part H O K sub)) (grown_keeps P stays (rest_of h k) (tree before h) p)
+  part_keeps O P stays {h} {k} H K sub p = rw (tree_from_part H O K sub) (grown_keeps P stays (rest_of h k) (tree before h) p)
 
 module _ {E : Type 0} {before : Id → Id → Bool} (O : Order before) {ms : List (Making E)} {hs : ℕ → List (Edit E)} (F : Facts before ms hs) where
   -- the tree of all that was made
   abbrev whole : Forest E
   whole = tree before (edits_of ms)
-
-  -- an edit is in a part of all if its identifier is
-  in_part : {k : List (Edit E)} → k ⊆ edits_of ms → (d : Edit E) → d ∈ edits_of ms → d.id ∈ edit_ids k → d ∈ k
-  in_part {k} sub d m i = let u = of_ids k i in
-      subst (λ (c : Edit E). c ∈ k) (one_each F.all u.0 d (sub u.0 u.1) m u.2) u.1
 
   module _ (m : Making E) (k : m ∈ ms) where
     -- what the maker of m had applied, and its tree
@@ -58,14 +53,10 @@ module _ {E : Type 0} {before : Id → Id → Bool} (O : Order before) {ms : Lis
     since : (P : Forest E → Type 0) → Stays before P → {j : List (Edit E)} → History j → known ⊆ j → m.edit ∈ j
         → P (apply before m.edit seen) → P (tree before j)
     since P stays {j} J sub i p = part_keeps before O P stays (more m.edit M.history M.lawful M.next) J
-        (λ d w. within d (in_snoc known m.edit w)) (subst P (sym (tree_snoc before known m.edit)) p)
+        (sub_snoc sub i) (rw (tree_snoc before known m.edit) p)
       where
         M : Made before (edits_of ms) m
         M = F.made m k
-
-        within : (d : Edit E) → (d ∈ known) ⊎ (d ≡ m.edit) → d ∈ j
-        within d (inl v) = sub d v
-        within d (inr q) = subst (λ (c : Edit E). c ∈ j) (sym q) i
 
     -- m is below b in the tree of all if it is where it was made
     made_under : (s : Side) (b : Id) (c : Change E) → m.edit.change ≡ c → Under s b (change before m.edit.id c seen) m.edit.id
@@ -128,12 +119,12 @@ module _ {E : Type 0} {before : Id → Id → Bool} (O : Order before) {ms : Lis
       m_in = follower_in n.left (seen n j) m.edit.id follows
 
       m_known : m.edit ∈ N.known
-      m_known = in_part N.part m.edit (in_map making_edit ms i) (entry_edit (entries before N.history) m.edit.id m_in)
+      m_known = in_part F.all N.part m.edit (in_map making_edit ms i) (entry_edit (entries before N.history) m.edit.id m_in)
 
       -- the maker of n had applied all that the maker of m had
       all_known : M.known ⊆ N.known
-      all_known d k = in_part N.part d (M.part d k) (covered_in N.history m.edit m_known d.id
-          (subst (λ (c : Clock). Covers c d.id) (sym M.clock) ((counted M.history).within d.id (in_ids M.known k))))
+      all_known d k = in_part F.all N.part d (M.part d k) (covered_in N.history m.edit m_known d.id
+          (rw M.clock ((counted M.history).within d.id (in_ids M.known k))))
 
       right_child : has_right_child n.left (seen n j) ≡ true
       right_child = subst (λ (l : Parent). has_right_child l (seen n j) ≡ true) (sym same_left)
@@ -147,16 +138,16 @@ module _ {E : Type 0} {before : Id → Id → Bool} (O : Order before) {ms : Lis
   -- the first is below b, and the others are below the first
   one_more : (s : Side) (b : Id) (m : Making E) (run : List (Making E)) → Under s b whole m.edit.id → AllUnder s m.edit.id run
       → AllUnder s b (m ∷ run)
-  one_more s b m run u below a (here p) = subst (λ (n : Making E). Under s b whole n.edit.id) (sym p) u
-  one_more s b m run u below a (there k) = under_trans s s b m.edit.id a.edit.id whole (entries before F.all).distinct u (below a k)
+  one_more s b m run u below = each_cons (λ (n : Making E). Under s b whole n.edit.id) m run u
+      (λ a k. under_trans s s b m.edit.id a.edit.id whole (entries before F.all).distinct u (below a k))
 
   forward_under : (m : Making E) (run : List (Making E)) → InsertionsOf ms (m ∷ run) → Forward m run → AllUnder Right m.edit.id run
-  forward_under m [] made steps = λ a k. absurd (in_nil k)
+  forward_under m [] made steps = λ a k. elim k [ ]
   forward_under m (n ∷ run) made steps = let N = made n (there (here refl)) in
       one_more Right m.edit.id n run (under_left n N.0 N.1 m.edit.id steps.0) (forward_under n run (λ a k. made a (there k)) steps.1)
 
   backward_under : (m : Making E) (run : List (Making E)) → InsertionsOf ms (m ∷ run) → Backward m run → AllUnder Left m.edit.id run
-  backward_under m [] made steps = λ a k. absurd (in_nil k)
+  backward_under m [] made steps = λ a k. elim k [ ]
   backward_under m (n ∷ run) made steps = let M = made m (here refl) in let N = made n (there (here refl)) in
       one_more Left m.edit.id n run (under_next m n M.0 N.0 M.1 N.1 steps.0 steps.1)
       (backward_under n run (λ a k. made a (there k)) steps.2)
@@ -165,7 +156,7 @@ module _ {E : Type 0} {before : Id → Id → Bool} (O : Order before) {ms : Lis
   below_knew : (s : Side) (b : Id) {h : List (Edit E)} → History h → h ⊆ edits_of ms → (y : Id) → Under s b (tree before h) y → Knew ms y b
   below_knew s b empty sub y u = absurd u
   below_knew s b (more {h} e H l n) sub y u =
-      go (under_was before e.id e.change s b y (tree before h) (subst (λ (f : Forest E). Under s b f y) (tree_snoc before h e) u))
+      go (under_was before e.id e.change s b y (tree before h) (rw⁻¹ (tree_snoc before h e) u))
       (below_knew s b H (λ d k. sub d (in_left h (e ∷ []) k)))
     where
       made : (m : Making E) × (m ∈ ms) × (m.edit ≡ e)
@@ -178,9 +169,9 @@ module _ {E : Type 0} {before : Id → Id → Bool} (O : Order before) {ms : Lis
       Earlier = (z : Id) → Under s b (tree before h) z → Knew ms z b
 
       covers : (p : Id) → Covers m.edit.clock p → (p ≡ b) ⊎ Under s b (tree before h) p → Earlier → Covers m.edit.clock b
-      covers p c (inl q) ih = subst (Covers m.edit.clock) q c
+      covers p c (inl q) ih = rw⁻¹ q c
       covers p c (inr v) ih = let k = ih p v in
-          closed F m made.1 k.0.edit (in_map making_edit ms k.1) (subst (Covers m.edit.clock) (sym k.2) c) b k.4
+          closed F m made.1 k.0.edit (in_map making_edit ms k.1) (rw k.2 c) b k.4
 
       go : (Under s b (tree before h) y)
           ⊎ ((y ≡ e.id) × (p : Id) × (t : Side) × (x : E) × (e.change ≡ insertion (Entry p) t x) × ((p ≡ b) ⊎ Under s b (tree before h) p))
@@ -191,18 +182,17 @@ module _ {E : Type 0} {before : Id → Id → Bool} (O : Order before) {ms : Lis
         made.1,
         ap edit_id made.2 ∙ sym v.0,
         ap (λ (d : Edit E). is_insertion d.change) made.2 ∙ ap is_insertion v.4,
-        covers v.1 (subst (λ (d : Edit E). Covers d.clock v.1) (sym made.2) (subst (Refers e.clock) v.4 l.refers)) v.5 ih,
+        covers v.1 (rw made.2 (subst (Refers e.clock) v.4 l.refers)) v.5 ih,
       )
 
   -- between two entries of a run all of which is below its first, on one side
   unbroken : (s : Side) (m : Making E) (run : List (Making E)) → AllUnder s m.edit.id run → (a c : Making E) → a ∈ (m ∷ run) → c ∈ (m ∷ run)
       → (y : Id) → Before (ids whole) a.edit.id y → Before (ids whole) y c.edit.id → Knew ms y m.edit.id
   unbroken s m run below a c i j y p q = below_knew s m.edit.id F.all (λ d k. k) y
-      (between s m.edit.id whole (entries before F.all).distinct a.edit.id y c.edit.id (first_or i) (first_or j) p q)
+      (between s m.edit.id whole (entries before F.all).distinct a.edit.id y c.edit.id (first_or a i) (first_or c j) p q)
     where
-      first_or : {n : Making E} → n ∈ (m ∷ run) → (n.edit.id ≡ m.edit.id) ⊎ Under s m.edit.id whole n.edit.id
-      first_or (here e) = inl (ap (λ (n : Making E). n.edit.id) e)
-      first_or {n} (there k) = inr (below n k)
+      first_or : (n : Making E) → n ∈ (m ∷ run) → (n.edit.id ≡ m.edit.id) ⊎ Under s m.edit.id whole n.edit.id
+      first_or = each_cons (λ (n : Making E). (n.edit.id ≡ m.edit.id) ⊎ Under s m.edit.id whole n.edit.id) m run (inl refl) (λ n k. inr (below n k))
 
 pub no_interleaving : {E : Type 0} {before : Id → Id → Bool} → Order before → {ms : List (Making E)} {hs : ℕ → List (Edit E)} → Reached before ms hs
     → (m n : Making E) (rest : List (Making E)) → TypedRun ms m n rest → Unbroken ms (ids (tree before (edits_of ms))) (m ∷ n ∷ rest) m.edit.id

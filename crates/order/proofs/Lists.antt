@@ -1,11 +1,13 @@
 -- Members of lists, filters, lists without repetition, order of places, and functions replaced at a place.
-use Rattle.std.proofs.Common.{◌≡◌, ℕ, zero, suc, ◌<◌, Bool, true, false, cond, ◌&&◌, ◌||◌, eqb, ◌⊎◌, List, [], ◌∷◌, ◌++◌, map, length, get_or, sym, refl, ap, ◌∙◌, subst, inl, inr, arith}
-use mathlib.Core.Bool.{false≢true}
-use mathlib.Core.Logic.{⊎_map}
+use Rattle.std.proofs.Common.{◌≡◌, ℕ, zero, suc, ◌<◌, Bool, true, false, cond, ◌||◌, eqb, ◌⊎◌, List, [], ◌∷◌, ◌++◌, map, length, get_or, sym, refl, ap, ◌∙◌, inl, inr, arith, eq-eqb, ne_eqb, eqb-true}
+use Rattle.std.proofs.lemmas.Bool.{false≢true, both_ways, cond-false, cond-true, cond_both, eqb-false, false_from_ne_true, or_cases, or_left, or_right}
+use Rattle.std.specs.Cmp.{both_ways as same_test}
+use Rattle.std.proofs.Math.Bool.{or_assoc}
+use Rattle.std.proofs.Math.Logic.{⊎_map}
 use Rattle.edits.specs.declared.id.Id.{Id}
 use Rattle.edits.specs.Ids.{same}
 use Rattle.order.specs.Lists.{◌∈◌, here, there, ◌∉◌, ◌⊆◌, keep, Before, with_at, any}
-use Rattle.order.proofs.Ids.{either, not_both, not_true, or_true, or_left, or_right, or_or, eqb_same, eqb_eq, eqb_apart, same_eq, eq_same}
+use Rattle.order.proofs.Ids.{same_apart, same_eq, same_refl}
 
 module _ {A : Type 0} where
   pub in_left : {x : A} (xs ys : List A) → x ∈ xs → x ∈ (xs ++ ys)
@@ -22,22 +24,26 @@ module _ {A : Type 0} where
   in_split (z ∷ xs) ys (here e) = inl (here e)
   in_split (z ∷ xs) ys (there m) = ⊎_map (λ k. there k) (λ k. k) (in_split xs ys m)
 
-  pub in_one : {x y : A} → x ∈ (y ∷ []) → x ≡ y
-  in_one (here e) = e
-  in_one (there m) = elim m [ ]
-
-  pub in_nil : {x : A} → x ∈ [] → ⊥
-  in_nil m = elim m [ ]
-
   -- one more at the end
   pub in_last : (xs : List A) (x : A) → x ∈ (xs ++ (x ∷ []))
   in_last xs x = in_right xs (x ∷ []) (here refl)
 
   pub in_snoc : {x : A} (xs : List A) (y : A) → x ∈ (xs ++ (y ∷ [])) → (x ∈ xs) ⊎ (x ≡ y)
-  in_snoc xs y m = ⊎_map (λ k. k) (λ k. in_one k) (in_split xs (y ∷ []) m)
+  in_snoc xs y m = ⊎_map (λ k. k) (λ k. elim k [ here e ↦ e | there n ↦ elim n [ ] ]) (in_split xs (y ∷ []) m)
+
+  -- what holds of the elements and of one more, at the end or in front
+  pub each_snoc : (P : A → Type 0) (xs : List A) (y : A) → ((x : A) → x ∈ xs → P x) → P y → (x : A) → x ∈ (xs ++ (y ∷ [])) → P x
+  each_snoc P xs y all last x m = elim (in_snoc xs y m) [ inl k ↦ all x k | inr e ↦ rw e last ]
+
+  pub each_cons : (P : A → Type 0) (y : A) (ys : List A) → P y → ((x : A) → x ∈ ys → P x) → (x : A) → x ∈ (y ∷ ys) → P x
+  each_cons P y ys first all x (here e) = rw e first
+  each_cons P y ys first all x (there m) = all x m
+
+  pub sub_snoc : {xs zs : List A} {y : A} → xs ⊆ zs → y ∈ zs → (xs ++ (y ∷ [])) ⊆ zs
+  sub_snoc {xs} {zs} {y} all last = each_snoc (λ (x : A). x ∈ zs) xs y all last
 
   pub in_getD : (xs : List A) (n : ℕ) (d : A) → n < length xs → get_or xs n d ∈ xs
-  in_getD [] n d l = let no : ⊥ = omega arith in absurd no
+  in_getD [] n d l = absurd (omega arith)
   in_getD (x ∷ xs) zero d l = here refl
   in_getD (x ∷ xs) (suc n) d l = there (in_getD xs n d (omega arith))
 
@@ -84,20 +90,10 @@ module _ {A : Type 0} where
   keep_all p [] f = refl
   keep_all p (x ∷ xs) f = rw (f x (here refl)) (ap (λ (zs : List A). x ∷ zs) (keep_all p xs (λ y m. f y (there m))))
 
-  -- a filter on what another has left
-  pub keep_keep : (p q : A → Bool) (xs : List A) → keep p (keep q xs) ≡ keep (λ (x : A). q x && p x) xs
-  keep_keep p q [] = refl
-  keep_keep p q (x ∷ xs) = go (q x) (keep_keep p q xs)
-    where
-      go : (b : Bool) → keep p (keep q xs) ≡ keep (λ (y : A). q y && p y) xs
-          → keep p (cond b (x ∷ keep q xs) (keep q xs)) ≡ cond (b && p x) (x ∷ keep (λ (y : A). q y && p y) xs) (keep (λ (y : A). q y && p y) xs)
-      go true e = λ i. cond (p x) (x ∷ e i) (e i)
-      go false e = e
-
   -- some element passes
   pub any_true : (p : A → Bool) (xs : List A) → any p xs ≡ true → (x : A) × (x ∈ xs) × (p x ≡ true)
   any_true p [] t = absurd (false≢true t)
-  any_true p (y ∷ xs) t = go (or_true (p y) (any p xs) t) (any_true p xs)
+  any_true p (y ∷ xs) t = go (or_cases (p y) (any p xs) t) (any_true p xs)
     where
       go : (p y ≡ true) ⊎ (any p xs ≡ true) → (any p xs ≡ true → (x : A) × (x ∈ xs) × (p x ≡ true)) → (x : A) × (x ∈ (y ∷ xs)) × (p x ≡ true)
       go (inl k) ih = (y, here refl, k)
@@ -109,22 +105,17 @@ module _ {A : Type 0} where
   true_any p (y ∷ xs) (there m) t = or_right (p y) (any p xs) (true_any p xs m t)
 
   pub any_false : (p : A → Bool) (xs : List A) → any p xs ≡ false → (x : A) → x ∈ xs → p x ≡ false
-  any_false p xs t x m = not_true (p x) (λ u. not_both (true_any p xs m u) t)
+  any_false p xs t x m = false_from_ne_true (p x) (λ u. both_ways _ t (true_any p xs m u))
 
   pub any_append : (p : A → Bool) (xs ys : List A) → any p (xs ++ ys) ≡ (any p xs || any p ys)
   any_append p [] ys = refl
-  any_append p (x ∷ xs) ys = ap (λ (b : Bool). p x || b) (any_append p xs ys) ∙ sym (or_or (p x) (any p xs) (any p ys))
+  any_append p (x ∷ xs) ys = ap (λ (b : Bool). p x || b) (any_append p xs ys) ∙ sym (or_assoc (p x) (any p xs) (any p ys))
 
   -- lists with the same elements
   pub any_same : (p : A → Bool) (xs ys : List A) → xs ⊆ ys → ys ⊆ xs → any p xs ≡ any p ys
-  any_same p xs ys f g = alike (any p xs) (any p ys)
+  any_same p xs ys f g = same_test (any p xs) (any p ys)
       (λ t. let u = any_true p xs t in true_any p ys (f u.0 u.1) u.2)
       (λ t. let u = any_true p ys t in true_any p xs (g u.0 u.1) u.2)
-    where
-      alike : (a b : Bool) → (a ≡ true → b ≡ true) → (b ≡ true → a ≡ true) → a ≡ b
-      alike true b up down = sym (up refl)
-      alike false true up down = down refl
-      alike false false up down = refl
 
   -- no element twice
   abbrev pub Distinct : List A → Type 0
@@ -141,16 +132,15 @@ module _ {A : Type 0} where
 
   pub distinct_across : (xs ys : List A) → Distinct (xs ++ ys) → {x : A} → x ∈ xs → x ∉ ys
   distinct_across [] ys d m k = elim m [ ]
-  distinct_across (z ∷ xs) ys d {x} (here e) k = d.0 (in_right xs ys (subst (λ (w : A). w ∈ ys) e k))
+  distinct_across (z ∷ xs) ys d {x} (here e) k = d.0 (in_right xs ys (rw⁻¹ e k))
   distinct_across (z ∷ xs) ys d {x} (there m) k = distinct_across xs ys d.1 m k
 
-  pub distinct_append : (xs ys : List A) → Distinct xs → Distinct ys → ((x : A) → x ∈ xs → x ∉ ys) → Distinct (xs ++ ys)
-  distinct_append [] ys d e f = e
-  distinct_append (x ∷ xs) ys d e f = ((λ m. go (in_split xs ys m)), distinct_append xs ys d.1 e (λ y m. f y (there m)))
-    where
-      go : (x ∈ xs) ⊎ (x ∈ ys) → ⊥
-      go (inl m) = d.0 m
-      go (inr m) = f x (here refl) m
+  pub distinct_snoc : (xs : List A) (y : A) → Distinct xs → y ∉ xs → Distinct (xs ++ (y ∷ []))
+  distinct_snoc [] y d new = ((λ m. elim m [ ]), tt)
+  distinct_snoc (x ∷ xs) y d new = (
+    (λ m. elim (in_snoc xs y m) [ inl k ↦ d.0 k | inr e ↦ new (here (sym e)) ]),
+    distinct_snoc xs y d.1 (λ m. new (there m)),
+  )
 
   -- order of places
   pub before_left : (xs : List A) (x y : A) → Before xs x y → x ∈ xs
@@ -179,9 +169,9 @@ module _ {A : Type 0} where
 
   pub before_once : (xs : List A) → Distinct xs → (x y : A) → Before xs x y → Before xs y x → ⊥
   before_once [] d x y b c = absurd b
-  before_once (z ∷ xs) d x y (inl b) (inl c) = d.0 (subst (λ (w : A). w ∈ xs) (sym c.0) b.1)
-  before_once (z ∷ xs) d x y (inl b) (inr c) = d.0 (subst (λ (w : A). w ∈ xs) (sym b.0) (before_right xs y x c))
-  before_once (z ∷ xs) d x y (inr b) (inl c) = d.0 (subst (λ (w : A). w ∈ xs) (sym c.0) (before_right xs x y b))
+  before_once (z ∷ xs) d x y (inl b) (inl c) = d.0 (rw c.0 b.1)
+  before_once (z ∷ xs) d x y (inl b) (inr c) = d.0 (rw b.0 (before_right xs y x c))
+  before_once (z ∷ xs) d x y (inr b) (inl c) = d.0 (rw c.0 (before_right xs x y b))
   before_once (z ∷ xs) d x y (inr b) (inr c) = before_once xs d.1 x y b c
 
 module _ {A B : Type 0} (f : A → B) where
@@ -208,39 +198,30 @@ module _ {A B : Type 0} (f : A → B) where
       go true e = ap (λ (zs : List B). f x ∷ zs) e
       go false e = e
 
+-- what is not in a list is none of its elements
+pub none_of : (x : Id) (xs : List Id) → x ∉ xs → (a : Id) → a ∈ xs → same x a ≡ false
+none_of x xs no-x a m = same_apart x a (λ p. no-x (rw p m))
+
 -- whether an identifier is in a list
 pub is_in : List Id → Id → Bool
-is_in [] a = false
-is_in (x ∷ xs) a = same x a || is_in xs a
+is_in xs a = any (λ (x : Id). same x a) xs
 
 pub is_in_true : (xs : List Id) (a : Id) → a ∈ xs → is_in xs a ≡ true
 unfolding is_in
-is_in_true [] a m = elim m [ ]
-is_in_true (x ∷ xs) a (here p) = or_left (same x a) (is_in xs a) (eq_same x a (sym p))
-is_in_true (x ∷ xs) a (there m) = or_right (same x a) (is_in xs a) (is_in_true xs a m)
+is_in_true xs a m = true_any (λ (x : Id). same x a) xs m (same_refl a)
 
 pub of_is_in : (xs : List Id) (a : Id) → is_in xs a ≡ true → a ∈ xs
 unfolding is_in
-of_is_in [] a t = absurd (false≢true t)
-of_is_in (x ∷ xs) a t = go (or_true (same x a) (is_in xs a) t) (of_is_in xs a)
-  where
-    go : (same x a ≡ true) ⊎ (is_in xs a ≡ true) → (is_in xs a ≡ true → a ∈ xs) → a ∈ (x ∷ xs)
-    go (inl s) ih = here (sym (same_eq x a s))
-    go (inr s) ih = there (ih s)
+of_is_in xs a t = let u = any_true (λ (x : Id). same x a) xs t in rw⁻¹ (same_eq u.0 a u.2) u.1
 
 -- a function replaced at a place
 module _ {X : Type 0} where
   pub at_it : (f : ℕ → X) (i : ℕ) (x : X) → with_at f i x i ≡ x
-  at_it f i x = ap (λ (b : Bool). cond b x (f i)) (eqb_same i)
+  at_it f i x = cond-true (eqb i i) x (f i) (eq-eqb i i refl)
 
   pub at_other : (f : ℕ → X) (i : ℕ) (x : X) (j : ℕ) → (j ≡ i → ⊥) → with_at f i x j ≡ f j
-  at_other f i x j ne = ap (λ (b : Bool). cond b x (f j)) (eqb_apart j i ne)
+  at_other f i x j ne = cond-false (eqb j i) x (f j) (ne_eqb j i ne)
 
   -- what holds of the new value and of the others
   pub at_each : (P : ℕ → X → Type 0) (f : ℕ → X) (i : ℕ) (x : X) → P i x → ((j : ℕ) → (j ≡ i → ⊥) → P j (f j)) → (j : ℕ) → P j (with_at f i x j)
-  at_each P f i x it others j = go (either (eqb j i))
-    where
-      go : (eqb j i ≡ true) ⊎ (eqb j i ≡ false) → P j (with_at f i x j)
-      go (inl t) = subst (λ (b : Bool). P j (cond b x (f j))) (sym t) (subst (λ (n : ℕ). P n x) (sym (eqb_eq j i t)) it)
-      go (inr t) = subst (λ (b : Bool). P j (cond b x (f j))) (sym t)
-          (others j (λ p. not_both (subst (λ (n : ℕ). eqb n i ≡ true) (sym p) (eqb_same i)) t))
+  at_each P f i x it others j = cond_both (eqb j i) x (f j) (P j) (λ t. rw (eqb-true j i t) it) (λ t. others j (eqb-false j i t))

@@ -37,4 +37,4 @@ module _ {E : Type 0} (before : Id → Id → Bool) {h : List (Edit E)} (H : His
 
 module _ {E : Type 0} {h : List (Edit E)} (H : History h) where
   pub new_next : (i : ℕ) (c : Change E) → Next h (new_edit i h c)
-  new_next i c = record { new = λ m. let le = ((counted H).within (new_edit i h c).id m).1 in omega (arith, le); covered = λ a v. (counted H).full a v }
+  new_next i c = record { new = λ m. omega (arith, ((counted H).within (new_edit i h c).id m).1); covered = λ a v. (counted H).full a v }

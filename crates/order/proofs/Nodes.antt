@@ -1,6 +1,6 @@
 -- A node and its parts: its identifiers, where in it an identifier is, and that its parts share none; and how a deletion reads.
-use Rattle.std.proofs.Common.{◌≡◌, Bool, false, not, ◌&&◌, ◌⊎◌, List, ◌∷◌, ◌++◌, map, sym, refl, ap, ◌∙◌, subst, inl, inr}
-use mathlib.Core.Bool.{and-true}
+use Rattle.std.proofs.Common.{◌≡◌, Bool, false, not, ◌&&◌, ◌⊎◌, List, ◌∷◌, ◌++◌, map, sym, refl, ap, ◌∙◌, inl, inr}
+use Rattle.std.proofs.Math.Bool.{and-true}
 use Rattle.std.proofs.lemmas.List.{map-append}
 use Rattle.edits.specs.declared.id.Id.{Id}
 use Rattle.edits.specs.Ids.{same}
@@ -21,7 +21,7 @@ module _ {E : Type 0} where
     nexts : a ∈ ids n → Place a x l r n
 
   pub place : {a : Id} (x : Entry E) (l r n : Forest E) → a ∈ ids (node x l r n) → Place a x l r n
-  place {a} x l r n m = go (in_split (ids l) (x.id ∷ (ids r ++ ids n)) (subst (λ (zs : List Id). a ∈ zs) (ids_node x l r n) m))
+  place {a} x l r n m = go (in_split (ids l) (x.id ∷ (ids r ++ ids n)) (rw⁻¹ (ids_node x l r n) m))
     where
       end : (a ∈ ids r) ⊎ (a ∈ ids n) → Place a x l r n
       end (inl k) = rights k
@@ -33,7 +33,7 @@ module _ {E : Type 0} where
       go (inr (there k)) = end (in_split (ids r) (ids n) k)
 
   pub placed : {a : Id} (x : Entry E) (l r n : Forest E) → Place a x l r n → a ∈ ids (node x l r n)
-  placed {a} x l r n k = subst (λ (zs : List Id). a ∈ zs) (sym (ids_node x l r n)) (go k)
+  placed {a} x l r n k = rw (ids_node x l r n) (go k)
     where
       go : Place a x l r n → a ∈ (ids l ++ (x.id ∷ (ids r ++ ids n)))
       go (it e) = in_right (ids l) (x.id ∷ (ids r ++ ids n)) (here e)
@@ -67,7 +67,7 @@ module _ {E : Type 0} where
   }
     where
       whole : Distinct (ids l ++ (x.id ∷ (ids r ++ ids n)))
-      whole = subst Distinct (ids_node x l r n) d
+      whole = rw⁻¹ (ids_node x l r n) d
 
       end : Distinct (x.id ∷ (ids r ++ ids n))
       end = distinct_right (ids l) (x.id ∷ (ids r ++ ids n)) whole

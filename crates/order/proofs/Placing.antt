@@ -1,5 +1,5 @@
 -- What an insertion and a deletion at an index do to the document, and what they refer to.
-use Rattle.std.proofs.Common.{◌≡◌, ℕ, zero, suc, ◌<◌, ◌≤◌, Bool, true, false, cond, List, [], ◌∷◌, ◌++◌, map, length, get_or, take, drop, Some, None, Option, sym, refl, ap, ◌∙◌, subst, arith}
+use Rattle.std.proofs.Common.{◌≡◌, ℕ, zero, suc, ◌<◌, ◌≤◌, Bool, true, false, cond, List, [], ◌∷◌, ◌++◌, map, length, get_or, take, drop, Some, None, Option, sym, refl, ap, ◌∙◌, arith}
 use Rattle.std.proofs.lemmas.List.{length-map}
 use Rattle.edits.specs.declared.id.Id.{Id}
 use Rattle.edits.specs.declared.edit.Side.{Side}
@@ -12,40 +12,25 @@ use Rattle.order.specs.Edits.{Change, insertion, deletion}
 use Rattle.order.specs.Forests.{Entry, Forest, read, is_shown, visible, entry_id, ids, fresh, hide, change}
 use Rattle.order.specs.Placing.{left_neighbour, follower, has_right_child, hung, insertion_after, insertion_at, deletion_at}
 use Rattle.order.proofs.Ids.{same_apart, same_refl}
-use Rattle.order.proofs.Lists.{in_getD, in_map, of_map, of_keep, Distinct}
+use Rattle.order.proofs.Lists.{in_getD, in_map, of_map, of_keep, none_of, Distinct}
 use Rattle.order.proofs.Nodes.{read_bury, hide_other}
 use Rattle.order.proofs.Beside.{first_in, after_in, beside, beside_absent}
 use Rattle.order.proofs.Hanging.{inserted_first, inserted_after}
-
--- the start is no entry
-abbrev IsEntry : Parent → Type 0
-IsEntry parent.Start = ⊥
-IsEntry (parent.Entry a) = Unit {0}
-
-start_entry : {b : Id} → parent.Start ≡ parent.Entry b → ⊥
-start_entry e = subst IsEntry (sym e) tt
-
-abbrev entry_of : Id → Parent → Id
-entry_of a parent.Start = a
-entry_of a (parent.Entry b) = b
-
-entry_eq : {a b : Id} → parent.Entry a ≡ parent.Entry b → a ≡ b
-entry_eq {a} e = ap (entry_of a) e
 
 -- what the two changes refer to
 module _ {E : Type 0} where
   ids_shown : (xs : List (Entry E)) (b : Id) → b ∈ map entry_id (keep is_shown xs) → b ∈ map entry_id xs
   ids_shown xs b m = let k = of_map entry_id (keep is_shown xs) m in
-      subst (λ (c : Id). c ∈ map entry_id xs) k.2 (in_map entry_id xs (of_keep is_shown xs k.1).0)
+      rw⁻¹ k.2 (in_map entry_id xs (of_keep is_shown xs k.1).0)
 
   neighbour_in : (xs : List (Entry E)) (k : ℕ) (b : Id) → get_or (map (λ (x : Entry E). parent.Entry x.id) xs) k parent.Start ≡ parent.Entry b
       → b ∈ map entry_id xs
-  neighbour_in [] k b e = absurd (start_entry e)
-  neighbour_in (x ∷ xs) zero b e = here (sym (entry_eq e))
+  neighbour_in [] k b e = absurd (cc)
+  neighbour_in (x ∷ xs) zero b e = here (cc)
   neighbour_in (x ∷ xs) (suc k) b e = there (neighbour_in xs k b e)
 
   pub left_neighbour_in : (f : Forest E) (k : ℕ) (b : Id) → left_neighbour k f ≡ parent.Entry b → b ∈ ids f
-  left_neighbour_in f zero b e = absurd (start_entry e)
+  left_neighbour_in f zero b e = absurd (cc)
   left_neighbour_in f (suc k) b e = ids_shown (read f) b (neighbour_in (visible f) k b e)
 
   pub follower_in : (left : Parent) (f : Forest E) (a : Id) → follower left f ≡ Some a → a ∈ ids f
@@ -81,7 +66,7 @@ module _ {E : Type 0} where
 
   neighbour_at : (xs : List (Entry E)) (k : ℕ) → k < length xs
       → get_or (map (λ (x : Entry E). parent.Entry x.id) xs) k parent.Start ≡ parent.Entry (at xs k)
-  neighbour_at [] k h = let no : ⊥ = omega arith in absurd no
+  neighbour_at [] k h = absurd (omega arith)
   neighbour_at (x ∷ xs) zero h = refl
   neighbour_at (x ∷ xs) (suc k) h = neighbour_at xs k (omega arith)
 
@@ -93,18 +78,15 @@ module _ {E : Type 0} where
       (more : (k : ℕ) (x : Entry E) (xs : List (Entry E)) → x ∷ R k xs ≡ R (suc k) (x ∷ xs)) where
     shown_after : (xs : List (Entry E)) → Distinct (map entry_id xs) → (k : ℕ) → k < length (keep is_shown xs)
         → keep is_shown (g (at (keep is_shown xs) k) xs) ≡ R k (keep is_shown xs)
-    shown_after [] d k h = let no : ⊥ = omega arith in absurd no
+    shown_after [] d k h = absurd (omega arith)
     shown_after (x ∷ xs) d k h = go x.shown refl k h (shown_after xs d.1)
       where
         S : List (Entry E)
         S = keep is_shown xs
 
-        other : (a : Id) → a ∈ map entry_id xs → same x.id a ≡ false
-        other a m = same_apart x.id a (λ p. d.0 (subst (λ (c : Id). c ∈ map entry_id xs) (sym p) m))
-
         passed : (b : Bool) → x.shown ≡ b → (j : ℕ) → j < length S → keep is_shown (g (at S j) xs) ≡ R j S
             → keep is_shown (g (at S j) (x ∷ xs)) ≡ cond b (x ∷ R j S) (R j S)
-        passed b t j l ih = ap (keep is_shown) (pass (at S j) x xs (other (at S j) (at_in xs j l))) ∙ (λ i. cond (t i) (x ∷ ih i) (ih i))
+        passed b t j l ih = ap (keep is_shown) (pass (at S j) x xs (none_of x.id (map entry_id xs) d.0 (at S j) (at_in xs j l))) ∙ (λ i. cond (t i) (x ∷ ih i) (ih i))
 
         go : (b : Bool) → x.shown ≡ b → (j : ℕ) → j < length (cond b (x ∷ S) S)
             → ((m : ℕ) → m < length S → keep is_shown (g (at S m) xs) ≡ R m S)

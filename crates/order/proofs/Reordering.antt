@@ -1,6 +1,6 @@
 -- The tree of a set of edits does not depend on the order in which they were applied.
 use Rattle.std.proofs.Common.{◌≡◌, Bool, true, false, cond, not, ◌⊎◌, List, [], ◌∷◌, ◌++◌, sym, refl, ap, ◌∙◌, subst, inl, inr, append_assoc, append-nil}
-use mathlib.Core.Bool.{false≢true}
+use Rattle.std.proofs.lemmas.Bool.{false≢true, cases_Bool}
 use Rattle.edits.specs.declared.id.Id.{Id}
 use Rattle.edits.specs.declared.edit.Side.TheVariants.{Left, Right}
 use Rattle.edits.specs.declared.edit.Parent.TheVariants as parent
@@ -9,18 +9,18 @@ use Rattle.order.specs.Lists.{◌∈◌, here, ◌∉◌, ◌⊆◌, keep}
 use Rattle.order.specs.Edits.{Clock, Change, insertion, deletion, Edit, Covers, Refers, Order}
 use Rattle.order.specs.Forests.{nil, apply, grown, tree}
 use Rattle.order.specs.Histories.{edit_id, edit_ids, History, empty, more, SameEdits}
-use Rattle.order.proofs.Ids.{either, compare, same_apart, same_refl}
-use Rattle.order.proofs.Lists.{in_left, in_right, in_split, in_last, in_snoc, in_keep, of_keep, keep_snoc, keep_all, is_in, is_in_true, of_is_in, Distinct}
+use Rattle.order.proofs.Ids.{compare, same_apart, same_refl}
+use Rattle.order.proofs.Lists.{in_left, in_right, in_split, in_last, in_snoc, each_snoc, in_keep, of_keep, keep_snoc, keep_all, is_in, is_in_true, of_is_in, Distinct}
 use Rattle.order.proofs.Commuting.{Names, change_change}
-use Rattle.order.proofs.Histories.{tree_snoc, grown_append, in_ids, of_ids, ids_sub, not_own, lawful_in, covered_in, one_each}
+use Rattle.order.proofs.Histories.{tree_snoc, grown_append, in_ids, of_ids, ids_sub, not_own, lawful_in, covered_in, in_part}
 
 module _ {E : Type 0} where
   -- a change names only what its edit's clock covers
   named_covered : (clock : Clock) (c : Change E) (a : Id) → Refers clock c → Names c a → Covers clock a
   named_covered clock (insertion parent.Start Left x) a r n = absurd r
   named_covered clock (insertion parent.Start Right x) a r n = absurd n
-  named_covered clock (insertion (parent.Entry p) s x) a r n = subst (Covers clock) (sym n) r
-  named_covered clock (deletion t) a r n = subst (Covers clock) (sym n) r
+  named_covered clock (insertion (parent.Entry p) s x) a r n = rw n r
+  named_covered clock (deletion t) a r n = rw n r
 
   other_than : Id → Edit E → Bool
   other_than a d = not (same d.id a)
@@ -53,11 +53,11 @@ module _ {E : Type 0} where
       where
         nothing_gone : d.id ≡ e.id → without e.id k ≡ k
         nothing_gone q = keep_all (other_than e.id) k (λ c i. ap not (same_apart c.id e.id
-            (λ p. n.new (subst (λ (a : Id). a ∈ edit_ids k) (p ∙ sym q) (in_ids k i)))))
+            (λ p. n.new (rw⁻¹ (p ∙ sym q) (in_ids k i)))))
 
         here_last : d ≡ e → same d.id e.id ≡ true → PutLast before e (k ++ (d ∷ []))
         here_last p t = record {
-          history = subst History (sym gone) K;
+          history = rw gone K;
           same_tree = tree_snoc before k d ∙ ap (λ (c : Edit E). apply before c (tree before k)) p
               ∙ ap (λ (j : List (Edit E)). apply before e (tree before j)) (sym gone);
         }
@@ -67,7 +67,7 @@ module _ {E : Type 0} where
 
         earlier : e ∈ k → same d.id e.id ≡ false → (d.id ≡ e.id → ⊥) → PutLast before e k → PutLast before e (k ++ (d ∷ []))
         earlier i t ne L = record {
-          history = subst History (sym stays) (more d L.history l (record {
+          history = rw stays (more d L.history l (record {
             new = λ u. n.new (ids_sub _ k (λ c j. (of_without e.id k j).0) d.id u);
             covered = λ a c. known a c (of_ids k (n.covered a c));
           }));
@@ -79,8 +79,8 @@ module _ {E : Type 0} where
             stays = keep_snoc (other_than e.id) k d true (ap not t)
 
             known : (a : Id) → Covers d.clock a → (c : Edit E) × (c ∈ k) × (c.id ≡ a) → a ∈ edit_ids (without e.id k)
-            known a c u = subst (λ (b : Id). b ∈ edit_ids (without e.id k)) u.2 (in_ids (without e.id k)
-                (in_without e.id k u.1 (λ p. free d (in_last k d) (subst (Covers d.clock) (sym u.2 ∙ p) c))))
+            known a c u = rw⁻¹ u.2 (in_ids (without e.id k)
+                (in_without e.id k u.1 (λ p. free d (in_last k d) (rw⁻¹ (sym u.2 ∙ p) c))))
 
             swapped : apply before d (apply before e (tree before (without e.id k))) ≡ apply before e (apply before d (tree before (without e.id k)))
             swapped = change_change O d.id e.id d.change e.change ne
@@ -90,7 +90,7 @@ module _ {E : Type 0} where
 
         go : ((same d.id e.id ≡ true) × (d.id ≡ e.id)) ⊎ ((same d.id e.id ≡ false) × (d.id ≡ e.id → ⊥)) → (e ∈ k) ⊎ (e ≡ d)
             → (e ∈ k → ((c : Edit E) → c ∈ k → Covers c.clock e.id → ⊥) → PutLast before e k) → PutLast before e (k ++ (d ∷ []))
-        go (inl q) (inl i) ih = absurd (n.new (subst (λ (a : Id). a ∈ edit_ids k) (sym q.1) (in_ids k i)))
+        go (inl q) (inl i) ih = absurd (n.new (rw q.1 (in_ids k i)))
         go (inl q) (inr i) ih = here_last (sym i) q.0
         go (inr q) (inr i) ih = absurd (q.1 (ap edit_id (sym i)))
         go (inr q) (inl i) ih = earlier i q.0 q.1 (ih i (λ c j. free c (in_left k (d ∷ []) j)))
@@ -102,24 +102,17 @@ module _ {E : Type 0} where
         tree_snoc before h e ∙ ap (apply before e) (same_tree H (without e.id k) L.history rest) ∙ sym L.same_tree
       where
         free : (d : Edit E) → d ∈ k → Covers d.clock e.id → ⊥
-        free d i c = go (in_snoc h e ((alike d).1 i))
-          where
-            go : (d ∈ h) ⊎ (d ≡ e) → ⊥
-            go (inl j) = n.new (covered_in H d j e.id c)
-            go (inr p) = not_own e l (subst (λ (b : Edit E). Covers b.clock e.id) p c)
+        free d i = each_snoc (λ (b : Edit E). Covers b.clock e.id → ⊥) h e (λ b j c. n.new (covered_in H b j e.id c)) (not_own e l) d ((alike d).1 i)
 
         L : PutLast before e k
         L = put_last e K ((alike e).0 (in_last h e)) free
 
         rest : SameEdits h (without e.id k)
         rest d = (
-          (λ i. in_without e.id k ((alike d).0 (in_left h (e ∷ []) i)) (λ p. n.new (subst (λ (a : Id). a ∈ edit_ids h) p (in_ids h i)))),
-          λ i. let u = of_without e.id k i in go u.1 (in_snoc h e ((alike d).1 u.0)),
+          (λ i. in_without e.id k ((alike d).0 (in_left h (e ∷ []) i)) (λ p. n.new (rw⁻¹ p (in_ids h i)))),
+          λ i. let u = of_without e.id k i in
+              each_snoc (λ (b : Edit E). (b.id ≡ e.id → ⊥) → b ∈ h) h e (λ b j ne. j) (λ ne. absurd (ne refl)) d ((alike d).1 u.0) u.1,
         )
-          where
-            go : (d.id ≡ e.id → ⊥) → (d ∈ h) ⊎ (d ≡ e) → d ∈ h
-            go ne (inl j) = j
-            go ne (inr p) = absurd (ne (ap edit_id p))
 
   -- a part that is a history itself might as well have come first
   beyond : List (Edit E) → Edit E → Bool
@@ -132,7 +125,7 @@ module _ {E : Type 0} where
   pub rest_new : (h all : List (Edit E)) (a : Id) → a ∈ edit_ids (rest_of h all) → a ∉ edit_ids h
   unfolding rest_of beyond
   rest_new h all a m i = let u = of_ids (rest_of h all) m in
-      false≢true (sym (ap not (is_in_true (edit_ids h) u.0.id (subst (λ (b : Id). b ∈ edit_ids h) (sym u.2) i))) ∙ (of_keep (beyond h) all u.1).1)
+      false≢true (sym (ap not (is_in_true (edit_ids h) u.0.id (rw u.2 i))) ∙ (of_keep (beyond h) all u.1).1)
 
   pub rest_distinct : (h all : List (Edit E)) → Distinct (edit_ids all) → Distinct (edit_ids (rest_of h all))
   unfolding rest_of
@@ -142,7 +135,7 @@ module _ {E : Type 0} where
       go : (b : Bool) → Distinct (edit_ids (keep (beyond h) all)) → Distinct (edit_ids (cond b (e ∷ keep (beyond h) all) (keep (beyond h) all)))
       go true ih = (
         (λ m. let u = of_ids (keep (beyond h) all) m in
-            d.0 (subst (λ (a : Id). a ∈ edit_ids all) u.2 (in_ids all (of_keep (beyond h) all u.1).0))),
+            d.0 (rw⁻¹ u.2 (in_ids all (of_keep (beyond h) all u.1).0))),
         ih,
       )
       go false ih = ih
@@ -151,42 +144,40 @@ module _ {E : Type 0} where
     -- an edit of all is in h, or among the rest
     placed : (all : List (Edit E)) (a : Id) → a ∈ edit_ids all → a ∈ edit_ids (h ++ rest_of h all)
     unfolding rest_of beyond
-    placed all a m = go (either (is_in (edit_ids h) a)) (of_ids all m)
+    placed all a m = go (cases_Bool (is_in (edit_ids h) a)) (of_ids all m)
       where
         go : (is_in (edit_ids h) a ≡ true) ⊎ (is_in (edit_ids h) a ≡ false) → (d : Edit E) × (d ∈ all) × (d.id ≡ a) → a ∈ edit_ids (h ++ rest_of h all)
         go (inl t) u = ids_sub h (h ++ rest_of h all) (λ d k. in_left h (rest_of h all) k) a (of_is_in (edit_ids h) a t)
-        go (inr t) u = subst (λ (b : Id). b ∈ edit_ids (h ++ rest_of h all)) u.2 (in_ids (h ++ rest_of h all)
+        go (inr t) u = rw⁻¹ u.2 (in_ids (h ++ rest_of h all)
             (in_right h (rest_of h all) (in_keep (beyond h) all u.1 (ap not (subst (λ (b : Id). is_in (edit_ids h) b ≡ false) (sym u.2) t)))))
 
     pub part_first : {all : List (Edit E)} → History all → History (h ++ rest_of h all)
     unfolding rest_of beyond
-    part_first empty = subst History (sym (append-nil h)) H
+    part_first empty = rw (append-nil h) H
     part_first (more {h = all} e A l n) = go (is_in (edit_ids h) e.id) refl (part_first A)
       where
         go : (b : Bool) → is_in (edit_ids h) e.id ≡ b → History (h ++ rest_of h all) → History (h ++ rest_of h (all ++ (e ∷ [])))
-        go true t ih = subst (λ (r : List (Edit E)). History (h ++ r)) (sym (keep_snoc (beyond h) all e false (ap not t) ∙ append-nil (rest_of h all))) ih
-        go false t ih = subst History
-            (append_assoc h (rest_of h all) (e ∷ []) ∙ ap (λ (r : List (Edit E)). h ++ r) (sym (keep_snoc (beyond h) all e true (ap not t))))
+        go true t ih = rw (keep_snoc (beyond h) all e false (ap not t) ∙ append-nil (rest_of h all)) ih
+        go false t ih = rw⁻¹ (append_assoc h (rest_of h all) (e ∷ []) ∙ ap (λ (r : List (Edit E)). h ++ r) (sym (keep_snoc (beyond h) all e true (ap not t))))
             (more e ih l (record { new = λ m. out (of_ids (h ++ rest_of h all) m); covered = λ a c. placed all a (n.covered a c) }))
           where
             out : (d : Edit E) × (d ∈ (h ++ rest_of h all)) × (d.id ≡ e.id) → ⊥
             out u = in_which (in_split h (rest_of h all) u.1)
               where
                 in_which : (u.0 ∈ h) ⊎ (u.0 ∈ rest_of h all) → ⊥
-                in_which (inl i) = false≢true (sym t ∙ is_in_true (edit_ids h) e.id (subst (λ (a : Id). a ∈ edit_ids h) u.2 (in_ids h i)))
-                in_which (inr i) = n.new (subst (λ (a : Id). a ∈ edit_ids all) u.2 (in_ids all (of_keep (beyond h) all i).0))
+                in_which (inl i) = false≢true (sym t ∙ is_in_true (edit_ids h) e.id (rw⁻¹ u.2 (in_ids h i)))
+                in_which (inr i) = n.new (rw⁻¹ u.2 (in_ids all (of_keep (beyond h) all i).0))
 
     pub part_same : {all : List (Edit E)} → History all → h ⊆ all → SameEdits (h ++ rest_of h all) all
     unfolding rest_of beyond
-    part_same {all} A sub d = ((λ m. back (in_split h (rest_of h all) m)), λ m. there_or m (either (is_in (edit_ids h) d.id)))
+    part_same {all} A sub d = ((λ m. back (in_split h (rest_of h all) m)), λ m. there_or m (cases_Bool (is_in (edit_ids h) d.id)))
       where
         back : (d ∈ h) ⊎ (d ∈ rest_of h all) → d ∈ all
         back (inl i) = sub d i
         back (inr i) = (of_keep (beyond h) all i).0
 
         there_or : d ∈ all → (is_in (edit_ids h) d.id ≡ true) ⊎ (is_in (edit_ids h) d.id ≡ false) → d ∈ (h ++ rest_of h all)
-        there_or m (inl t) = let u = of_ids h (of_is_in (edit_ids h) d.id t) in
-            in_left h (rest_of h all) (subst (λ (c : Edit E). c ∈ h) (one_each A u.0 d (sub u.0 u.1) m u.2) u.1)
+        there_or m (inl t) = in_left h (rest_of h all) (in_part A sub d m (of_is_in (edit_ids h) d.id t))
         there_or m (inr t) = in_right h (rest_of h all) (in_keep (beyond h) all m (ap not t))
 
     -- the tree of all grows from the tree of the part

@@ -1,9 +1,9 @@
 -- What holds in every state that replicas reach by making edits and taking in those of others.
-use Rattle.std.proofs.Common.{◌≡◌, ℕ, suc, ◌<◌, ◌≤◌, Bool, true, false, ◌⊎◌, ◌↔◌, List, [], ◌∷◌, ◌++◌, length, take, drop, Some, None, Option, sym, refl, ap, ◌∙◌, subst, inl, inr, arith}
+use Rattle.std.proofs.Common.{◌≡◌, ℕ, suc, ◌<◌, ◌≤◌, Bool, true, false, ◌↔◌, List, [], ◌∷◌, ◌++◌, length, take, drop, Some, None, Option, sym, refl, ap, ◌∙◌, subst, arith}
+use Rattle.std.proofs.lemmas.Bool.{false≢true}
 use Rattle.edits.specs.declared.edit.Parent.{Parent}
 use Rattle.edits.specs.declared.edit.Side.{Side}
-use mathlib.Core.Bool.{false≢true}
-use Rattle.std.proofs.lemmas.List.{map-append}
+use Rattle.std.proofs.lemmas.List.{map-append, map_push}
 use Rattle.edits.specs.declared.id.Id.{Id}
 use Rattle.edits.specs.declared.edit.Parent.TheVariants.{Entry}
 use Rattle.order.specs.Lists.{◌∈◌, ◌⊆◌, here, keep}
@@ -11,10 +11,10 @@ use Rattle.order.specs.Edits.{Change, Edit, Covers, Lawful, is_insertion, Order,
 use Rattle.order.specs.Forests as Forests
 use Rattle.order.specs.Forests.{read, visible, ids, tree, fresh}
 use Rattle.order.specs.Placing.{follower, insertion_after, insertion_at, deletion_at, has_right_child, hung}
-use Rattle.order.specs.Histories.{count, Next, History, empty, more, SameEdits, SameCounts, standing, as_shown, stands}
+use Rattle.order.specs.Histories.{edit_ids, count, Next, History, empty, more, SameEdits, SameCounts, standing, as_shown, stands}
 use Rattle.order.specs.Systems.{Making, making_edit, edits_of, new_edit, extended, insertion_made, deletion_made, Reached, begin, inserts, deletes, takes_in}
-use Rattle.order.proofs.Lists.{in_left, in_last, in_snoc, at_each, in_right, in_map, of_map, of_keep}
-use Rattle.order.proofs.Histories.{in_ids, of_ids, ids_sub, lawful_in, covered_in, one_each, count_own, count_other, counted, count_part}
+use Rattle.order.proofs.Lists.{in_left, in_last, each_snoc, sub_snoc, at_each, in_right, in_map, of_map, of_keep}
+use Rattle.order.proofs.Histories.{in_ids, ids_sub, lawful_in, covered_in, in_part, count_own, count_other, counted, count_part}
 use Rattle.order.proofs.Reordering.{same_tree}
 use Rattle.order.proofs.Entries.{part_in_order}
 use Rattle.order.proofs.Placing.{left_neighbour_in}
@@ -56,6 +56,10 @@ module _ {E : Type 0} (before : Id → Id → Bool) where
     pub own : (i : ℕ) → count (hs i) i ≡ count (edits_of ms) i
     pub made : (m : Making E) → m ∈ ms → Made (edits_of ms) m
 
+module _ {E : Type 0} where
+  pub edits_more : (ms later : List (Making E)) → edits_of ms ⊆ edits_of (ms ++ later)
+  edits_more ms later e m = rw (map-append making_edit ms later) (in_left (edits_of ms) (edits_of later) m)
+
 module _ {E : Type 0} {before : Id → Id → Bool} where
   wider : {all : List (Edit E)} (e : Edit E) {m : Making E} → Made before all m → Made before (all ++ (e ∷ [])) m
   wider {all} e M = record {
@@ -69,23 +73,29 @@ module _ {E : Type 0} {before : Id → Id → Bool} where
   }
 
   module _ {ms : List (Making E)} {hs : ℕ → List (Edit E)} (F : Facts before ms hs) where
+    -- a replica has all of its own edits
+    pub has_own : (i : ℕ) (a : Id) → a.editor ≡ i → a ∈ edit_ids (edits_of ms) → a ∈ edit_ids (hs i)
+    has_own i a p m = let c = (counted F.all).within a m in
+        let same : count (hs i) a.editor ≡ count (edits_of ms) a.editor = rw p (F.own i) in
+        (counted (F.each i)).full a (c.0, omega arith)
+
     -- one more edit is made at the replica i, by the rules
     made_one : (i : ℕ) (m : Making E) (c : Change E) → m.edit ≡ new_edit i (hs i) c → Made before (edits_of ms) m
         → Facts before (ms ++ (m ∷ [])) (extended hs i m.edit)
     made_one i m c p M = record {
-      all = subst History (sym same) (more e F.all M.lawful next_all);
-      each = at_each (λ j h. History h) hs i _ (more e (F.each i) M.lawful (subst (Next (hs i)) (sym p) (new_next (F.each i) i c))) (λ j ne. F.each j);
-      part = at_each (λ j h. h ⊆ edits_of (ms ++ (m ∷ []))) hs i _ (λ d k. up d (here_or d (in_snoc (hs i) e k)))
-          (λ j ne d k. up d (in_left (edits_of ms) (e ∷ []) (F.part j d k)));
+      all = rw same (more e F.all M.lawful next_all);
+      each = at_each (λ j h. History h) hs i _ (more e (F.each i) M.lawful (rw p (new_next (F.each i) i c))) (λ j ne. F.each j);
+      part = at_each (λ j h. h ⊆ edits_of (ms ++ (m ∷ []))) hs i _ (sub_snoc (λ d k. edits_more ms (m ∷ []) d (F.part i d k)) (in_map making_edit (ms ++ (m ∷ [])) (in_last ms m)))
+          (λ j ne d k. edits_more ms (m ∷ []) d (F.part j d k));
       own = at_each (λ j h. count h j ≡ count (edits_of (ms ++ (m ∷ []))) j) hs i _ own_here own_there;
-      made = λ n k. subst (λ (l : List (Edit E)). Made before l n) (sym same) (which n (in_snoc ms m k));
+      made = rw same (each_snoc (Made before (edits_of ms ++ (e ∷ []))) ms m (λ n k. wider e (F.made n k)) (wider e M));
     }
       where
         e : Edit E
         e = m.edit
 
         same : edits_of (ms ++ (m ∷ [])) ≡ edits_of ms ++ (e ∷ [])
-        same = map-append making_edit ms (m ∷ [])
+        same = map_push making_edit ms m
 
         editor : e.id.editor ≡ i
         editor = ap (λ (d : Edit E). d.id.editor) p
@@ -95,28 +105,17 @@ module _ {E : Type 0} {before : Id → Id → Bool} where
 
         next_all : Next (edits_of ms) e
         next_all = record {
-          new = λ k. let le = ((counted F.all).within e.id k).1 in omega (arith, le, number);
+          new = λ k. omega (arith, ((counted F.all).within e.id k).1, number);
           covered = λ a v. ids_sub M.known (edits_of ms) M.part a (M.next.covered a v);
         }
 
-        up : (d : Edit E) → d ∈ (edits_of ms ++ (e ∷ [])) → d ∈ edits_of (ms ++ (m ∷ []))
-        up d k = subst (λ (l : List (Edit E)). d ∈ l) (sym same) k
-
-        here_or : (d : Edit E) → (d ∈ hs i) ⊎ (d ≡ e) → d ∈ (edits_of ms ++ (e ∷ []))
-        here_or d (inl k) = in_left (edits_of ms) (e ∷ []) (F.part i d k)
-        here_or d (inr q) = subst (λ (b : Edit E). b ∈ (edits_of ms ++ (e ∷ []))) (sym q) (in_last (edits_of ms) e)
-
         own_here : count (hs i ++ (e ∷ [])) i ≡ count (edits_of (ms ++ (m ∷ []))) i
         own_here = subst (λ (j : ℕ). count (hs i ++ (e ∷ [])) j ≡ count (edits_of (ms ++ (m ∷ []))) j) editor
-            (count_own (hs i) e ∙ ap suc (subst (λ (j : ℕ). count (hs i) j ≡ count (edits_of ms) j) (sym editor) (F.own i)) ∙ sym (count_own (edits_of ms) e)
+            (count_own (hs i) e ∙ ap suc (rw editor (F.own i)) ∙ sym (count_own (edits_of ms) e)
             ∙ ap (λ (l : List (Edit E)). count l e.id.editor) (sym same))
 
         own_there : (j : ℕ) → (j ≡ i → ⊥) → count (hs j) j ≡ count (edits_of (ms ++ (m ∷ []))) j
         own_there j ne = F.own j ∙ sym (ap (λ (l : List (Edit E)). count l j) same ∙ count_other (edits_of ms) e j (λ q. ne (sym q ∙ editor)))
-
-        which : (n : Making E) → (n ∈ ms) ⊎ (n ≡ m) → Made before (edits_of ms ++ (e ∷ [])) n
-        which n (inl k) = wider e (F.made n k)
-        which n (inr q) = subst (Made before (edits_of ms ++ (e ∷ []))) (sym q) (wider e M)
 
     insertion_is_made : (i k : ℕ) (x : E) → k ≤ length (visible (tree before (hs i))) → Made before (edits_of ms) (insertion_made before i (hs i) k x)
     insertion_is_made i k x le = record {
@@ -133,8 +132,7 @@ module _ {E : Type 0} {before : Id → Id → Bool} where
         shown = visible (tree before (hs i))
 
         entry : fresh (insertion_made before i (hs i) k x).edit.id x ∈ visible (tree before (hs i ++ ((insertion_made before i (hs i) k x).edit ∷ [])))
-        entry = subst (λ (ys : List (Forests.Entry E)). fresh (insertion_made before i (hs i) k x).edit.id x ∈ ys) (sym (inserts_at before (F.each i) i k x le))
-            (in_right (take k shown) (fresh (insertion_made before i (hs i) k x).edit.id x ∷ drop k shown) (here refl))
+        entry = rw (inserts_at before (F.each i) i k x le) (in_right (take k shown) (fresh (insertion_made before i (hs i) k x).edit.id x ∷ drop k shown) (here refl))
 
     deletion_is_made : (i k : ℕ) → k < length (visible (tree before (hs i))) → Made before (edits_of ms) (deletion_made before i (hs i) k)
     deletion_is_made i k lt = record {
@@ -152,24 +150,14 @@ module _ {E : Type 0} {before : Id → Id → Bool} where
     taken_one i e m n = record {
       all = F.all;
       each = at_each (λ j h. History h) hs i _ (more e (F.each i) (lawful_in F.all e m) n) (λ j ne. F.each j);
-      part = at_each (λ j h. h ⊆ edits_of ms) hs i _ (λ d k. old d (in_snoc (hs i) e k)) (λ j ne. F.part j);
+      part = at_each (λ j h. h ⊆ edits_of ms) hs i _ (sub_snoc (F.part i) m) (λ j ne. F.part j);
       own = at_each (λ j h. count h j ≡ count (edits_of ms) j) hs i _ (count_other (hs i) e i not_own ∙ F.own i) (λ j ne. F.own j);
       made = F.made;
     }
       where
-        old : (d : Edit E) → (d ∈ hs i) ⊎ (d ≡ e) → d ∈ edits_of ms
-        old d (inl k) = F.part i d k
-        old d (inr q) = subst (λ (b : Edit E). b ∈ edits_of ms) (sym q) m
-
         -- it has its own edits already
         not_own : e.id.editor ≡ i → ⊥
-        not_own p = n.new ((counted (F.each i)).full e.id (c.0, subst (λ (x : ℕ). e.id.number ≤ x) (sym own_count) c.1))
-          where
-            c : Covers (count (edits_of ms)) e.id
-            c = (counted F.all).within e.id (in_ids (edits_of ms) m)
-
-            own_count : count (hs i) e.id.editor ≡ count (edits_of ms) e.id.editor
-            own_count = subst (λ (j : ℕ). count (hs i) j ≡ count (edits_of ms) j) (sym p) (F.own i)
+        not_own p = n.new (has_own i e.id p (in_ids (edits_of ms) m))
 
   pub facts : {ms : List (Making E)} {hs : ℕ → List (Edit E)} → Reached before ms hs → Facts before ms hs
   facts begin = record { all = empty; each = λ i. empty; part = λ i d m. m; own = λ i. refl; made = λ m k. elim k [ ] }
@@ -181,31 +169,25 @@ module _ {E : Type 0} {before : Id → Id → Bool} where
     -- an edit covers all that an edit covers which it covers
     pub closed : (m : Making E) → m ∈ ms → (d : Edit E) → d ∈ edits_of ms → Covers m.edit.clock d.id
         → (a : Id) → Covers d.clock a → Covers m.edit.clock a
-    closed m k d j c a v = subst (λ (f : ℕ → ℕ). Covers f a) (sym M.clock) ((counted M.history).within a (covered_in M.history d d_known a v))
+    closed m k d j c a v = rw M.clock ((counted M.history).within a (covered_in M.history d d_known a v))
       where
         M : Made before (edits_of ms) m
         M = F.made m k
 
-        u : (b : Edit E) × (b ∈ M.known) × (b.id ≡ d.id)
-        u = of_ids M.known (M.next.covered d.id c)
-
         d_known : d ∈ M.known
-        d_known = subst (λ (b : Edit E). b ∈ M.known) (one_each F.all u.0 d (M.part u.0 u.1) j u.2) u.1
+        d_known = in_part F.all M.part d j (M.next.covered d.id c)
 
     counts_edits : (i j : ℕ) → SameCounts (hs i) (hs j) → hs i ⊆ hs j
-    counts_edits i j alike e m = subst (λ (d : Edit E). d ∈ hs j) (one_each F.all u.0 e (F.part j u.0 u.1) (F.part i e m) u.2) u.1
-      where
-        c : Covers (count (hs i)) e.id
-        c = (counted (F.each i)).within e.id (in_ids (hs i) m)
-
-        u : (d : Edit E) × (d ∈ hs j) × (d.id ≡ e.id)
-        u = of_ids (hs j) ((counted (F.each j)).full e.id (c.0, subst (λ (n : ℕ). e.id.number ≤ n) (alike e.id.editor) c.1))
+    counts_edits i j alike e m = let c = (counted (F.each i)).within e.id (in_ids (hs i) m) in let same = alike e.id.editor in
+        in_part F.all (F.part j) e (F.part i e m) ((counted (F.each j)).full e.id (c.0, omega arith))
 
     edits_counts : (i j : ℕ) → SameEdits (hs i) (hs j) → SameCounts (hs i) (hs j)
     edits_counts i j alike editor =
-        let a = count_part (counted (F.each i)) (counted (F.each j)) (ids_sub (hs i) (hs j) (λ e. (alike e).0)) editor in
-        let b = count_part (counted (F.each j)) (counted (F.each i)) (ids_sub (hs j) (hs i) (λ e. (alike e).1)) editor in
-        omega (arith, a, b)
+        omega (
+          arith,
+          count_part (counted (F.each i)) (counted (F.each j)) (ids_sub (hs i) (hs j) (λ e. (alike e).0)) editor,
+          count_part (counted (F.each j)) (counted (F.each i)) (ids_sub (hs j) (hs i) (λ e. (alike e).1)) editor,
+        )
 
     pub agreement : Order before → (i j : ℕ) → (SameCounts (hs i) (hs j) ↔ SameEdits (hs i) (hs j))
         × (SameEdits (hs i) (hs j) → visible (tree before (hs i)) ≡ visible (tree before (hs j)))
@@ -217,8 +199,7 @@ module _ {E : Type 0} {before : Id → Id → Bool} where
     -- whatever is made later
     pub one_order : Order before → (later : List (Making E)) → History (edits_of (ms ++ later)) → (i : ℕ)
         → visible (tree before (hs i)) ≡ standing (hs i) (read (tree before (edits_of (ms ++ later))))
-    one_order O later A i = part_in_order O (F.each i) A (λ e m. subst (λ (l : List (Edit E)). e ∈ l) (sym (map-append making_edit ms later))
-        (in_left (edits_of ms) (edits_of later) (F.part i e m)))
+    one_order O later A i = part_in_order O (F.each i) A (λ e m. edits_more ms later e (F.part i e m))
 
     -- every insertion that was made is an entry of the tree of all
     pub becomes_entry : Order before → (m : Making E) → m ∈ ms → (p : Parent) (s : Side) (x : E) → m.edit.change ≡ insertion p s x
@@ -232,10 +213,7 @@ module _ {E : Type 0} {before : Id → Id → Bool} where
         h = M.known ++ (m.edit ∷ [])
 
         part : h ⊆ edits_of ms
-        part d j = elim (in_snoc M.known m.edit j) [
-          | inl i ↦ M.part d i
-          | inr e ↦ subst (λ (b : Edit E). b ∈ edits_of ms) (sym e) (in_map making_edit ms k)
-        ]
+        part = sub_snoc M.part (in_map making_edit ms k)
 
         u : (x' : E) × (m.edit.change ≡ insertion_after m.left x' (tree before M.known)) × (m.next ≡ follower m.left (tree before M.known))
             × ((b : Id) → m.left ≡ Entry b → b ∈ ids (tree before M.known)) × (fresh m.edit.id x' ∈ visible (tree before h))
@@ -246,4 +224,4 @@ module _ {E : Type 0} {before : Id → Id → Bool} where
 
         v : (y : Forests.Entry E) × (y ∈ keep (stands h) (read (tree before (edits_of ms)))) × (as_shown y ≡ fresh m.edit.id u.0)
         v = of_map as_shown (keep (stands h) (read (tree before (edits_of ms))))
-            (subst (λ (ys : List (Forests.Entry E)). fresh m.edit.id u.0 ∈ ys) (part_in_order O (more m.edit M.history M.lawful M.next) F.all part) u.4)
+            (rw⁻¹ (part_in_order O (more m.edit M.history M.lawful M.next) F.all part) u.4)

@@ -1,6 +1,6 @@
 -- Which entries are below an entry on a side, and what a change of the forest does to that.
 use Rattle.std.proofs.Common.{◌≡◌, Bool, true, false, cond, ◌⊎◌, sym, refl, ◌∙◌, inl, inr}
-use mathlib.Core.Logic.{⊎_map}
+use Rattle.std.proofs.Math.Logic.{⊎_map}
 use Rattle.edits.specs.declared.id.Id.{Id}
 use Rattle.edits.specs.declared.edit.Side.{Side}
 use Rattle.edits.specs.declared.edit.Side.TheVariants.{Left, Right}
@@ -11,7 +11,6 @@ use Rattle.order.specs.Lists.{◌∈◌}
 use Rattle.order.specs.Edits.{Change, insertion, deletion}
 use Rattle.order.specs.Forests.{Entry, Forest, nil, node, entry_id, ids, fresh, hide, bury, join, adopt, hang, change}
 use Rattle.order.proofs.Ids.{same_eq, same_refl}
-use Rattle.order.proofs.Lists.{in_nil}
 use Rattle.order.proofs.Nodes.{Place, it, lefts, rights, nexts, place, placed}
 use Rattle.order.proofs.Growing.{in_grew, of_grew, grew_map, join_grew}
 
@@ -87,7 +86,7 @@ module _ {E : Type 0} where
 
   module _ (before : Id → Id → Bool) where
     grows_join : (e : Entry E) (f : Forest E) → Grows f (join before e f)
-    grows_join e nil = record { inside = λ a i. absurd (in_nil i); below = λ s b a u. absurd u }
+    grows_join e nil = record { inside = λ a i. elim i [ ]; below = λ s b a u. absurd u }
     grows_join e (node x l r n) = go (before e.id x.id) (grows_join e n)
       where
         go : (w : Bool) → Grows n (join before e n) → Grows (node x l r n) (cond w (node e nil nil (node x l r n)) (node x l r (join before e n)))
@@ -125,7 +124,7 @@ module _ {E : Type 0} where
 
     -- the leaf is below its parent
     hang_new : (p : Id) (t : Side) (e : Entry E) (f : Forest E) → p ∈ ids f → Under t p (hang before p t e f) e.id
-    hang_new p t e nil m = absurd (in_nil m)
+    hang_new p t e nil m = elim m [ ]
     hang_new p t e (node x l r n) m = go (hang before p t e l) (hang before p t e r) (hang before p t e n) (place x l r n m)
         (hang_new p t e l) (hang_new p t e r) (hang_new p t e n)
       where
@@ -217,8 +216,8 @@ module _ {E : Type 0} where
 
   -- a leaf has nothing below it
   leaf_below : (e : Entry E) (s : Side) (b a : Id) (g : Forest E) → Under s b (node e nil nil g) a → Under s b g a
-  leaf_below e Left b a g (inl u) = absurd (in_nil u.1)
-  leaf_below e Right b a g (inl u) = absurd (in_nil u.1)
+  leaf_below e Left b a g (inl u) = elim u.1 [ ]
+  leaf_below e Right b a g (inl u) = elim u.1 [ ]
   leaf_below e s b a g (inr (inl u)) = absurd u
   leaf_below e s b a g (inr (inr (inl u))) = absurd u
   leaf_below e s b a g (inr (inr (inr u))) = u
@@ -249,11 +248,6 @@ module _ {E : Type 0} where
     adds_hang p t e T nil = adds_same e.id p T nil
     adds_hang p t e T (node x l r n) = adds_adopt (same x.id p) t e x p T refl
         (adds_hang p t e (x.id ≡ p) l) (adds_hang p t e (x.id ≡ p) r) (adds_hang p t e T n)
-
-    pub ids_was : (i : Id) (c : Change E) (f : Forest E) (a : Id) → a ∈ ids (change before i c f) → (a ∈ ids f) ⊎ (a ≡ i)
-    ids_was i (insertion parent.Start t x) f a m = of_grew (grew_map entry_id (join_grew before (fresh i x) f)) a m
-    ids_was i (insertion (parent.Entry p) t x) f a m = ⊎_map (λ z. z) (λ z. z.0) ((adds_hang p t (fresh i x) ⊥ f).inside a m)
-    ids_was i (deletion t) f a m = inl ((bury_same t f).1.inside a m)
 
     -- what is new below b is the leaf, whose parent is b or below it
     pub under_was : (i : Id) (c : Change E) (s : Side) (b a : Id) (f : Forest E) → Under s b (change before i c f) a

@@ -1,19 +1,20 @@
 -- One replica, given any edits: its document is the tree of exactly the applied edits.
-use Rattle.std.proofs.Common.{◌≡◌, ℕ, zero, suc, ◌+◌, ◌<◌, ◌≤◌, Bool, true, false, eqb, ltb, leb, ◌⊎◌, List, [], ◌∷◌, ◌++◌, length, Some, None, Option, sym, refl, ap, ◌∙◌, subst, inl, inr, arith, length-append}
-use mathlib.Core.Path.{fun_ext}
+use Rattle.std.proofs.Common.{◌≡◌, ℕ, zero, suc, ◌+◌, ◌<◌, ◌≤◌, Bool, false, ltb, leb, ◌⊎◌, List, [], ◌∷◌, ◌++◌, length, Some, None, Option, sym, refl, ap, ◌∙◌, inl, inr, arith, ltb-false, leb-false}
+use Rattle.std.proofs.lemmas.List.{length_push}
+use Rattle.std.proofs.lemmas.Bool.{cases_eq, both_ways}
+use Rattle.std.proofs.Math.Path.{fun_ext}
 use Rattle.edits.specs.declared.id.Id.{Id}
 use Rattle.edits.specs.declared.fault.Fault.{Fault}
 use Rattle.order.specs.Lists.{◌∈◌, ◌⊆◌}
 use Rattle.order.specs.Edits.{Clock, Edit, Covers}
-use Rattle.order.specs.Forests.{Forest, visible, apply, tree}
-use Rattle.order.specs.Histories.{edit_ids, count, History, empty, more}
+use Rattle.order.specs.Forests.{visible, apply, tree}
+use Rattle.order.specs.Histories.{count, History, empty, more}
 use Rattle.order.specs.Systems.{Making, insertion_made, deletion_made}
 use Rattle.order.specs.Theorems.{PutAt, HiddenAt}
-use Rattle.order.proofs.Ids.{either, not_both, eqb_eq, eqb_same, leb_lt, ltb_le}
-use Rattle.order.proofs.Lists.{in_left, in_last, in_snoc, in_nil}
+use Rattle.order.proofs.Lists.{in_left, in_last, each_snoc}
 use Rattle.order.proofs.Histories.{tree_snoc, in_ids, of_ids, count_own, count_other}
 use Rattle.order.proofs.Making.{inserts_at, deletes_at}
-use Rattle.runs.specs.Replicas.{Editor, Replica, new, own_roster, own, own_waits, used_up, next_id, full, no_insert, no_delete, own_insertion, own_deletion, Reply, declined, edited, commit, insert, delete}
+use Rattle.runs.specs.Replicas.{Editor, Replica, new, own_roster, own, own_waits, used_up, next_id, full, no_insert, no_delete, own_insertion, own_deletion, edited, commit, insert, delete}
 use Rattle.runs.specs.Promises.{total, Applied, applies, Rostered, Document, Fed, unused, takes_in, makes_insertion, makes_deletion, KeptAlone}
 use Rattle.runs.proofs.Tests.{Allowed, allowed_by}
 use Rattle.runs.proofs.Sound.{Sound, Settled, covered_ready}
@@ -24,48 +25,39 @@ use Rattle.runs.proofs.Rosters.{new_rostered, takes_rostered, commit_rostered}
 total_same : {E : Type 0} (n : ℕ) (h : List (Edit E)) (e : Edit E) → n < e.id.editor → total n (count (h ++ (e ∷ []))) ≡ total n (count h)
 unfolding total
 total_same zero h e l = refl
-total_same (suc n) h e l = let ih = total_same n h e (omega arith) in let o = count_other h e (suc n) (λ p. apart p) in omega (arith, ih, o)
-  where
-    apart : e.id.editor ≡ suc n → ⊥
-    apart p = omega (arith, p, l)
+total_same (suc n) h e l = omega (arith, total_same n h e (omega arith), count_other h e (suc n) (λ p. omega arith))
 
 total_more : {E : Type 0} (n : ℕ) (h : List (Edit E)) (e : Edit E) → 1 ≤ e.id.editor → e.id.editor ≤ n → total n (count (h ++ (e ∷ []))) ≡ suc (total n (count h))
 unfolding total
-total_more zero h e l u = let no : ⊥ = omega arith in absurd no
-total_more (suc n) h e l u = go (either (eqb e.id.editor (suc n))) (total_more n h e l)
+total_more zero h e l u = absurd (omega arith)
+total_more (suc n) h e l u = go (cases_eq e.id.editor (suc n)) (total_more n h e l)
   where
-    go : (eqb e.id.editor (suc n) ≡ true) ⊎ (eqb e.id.editor (suc n) ≡ false)
+    go : (e.id.editor ≡ suc n) ⊎ (e.id.editor ≡ suc n → ⊥)
         → (e.id.editor ≤ n → total n (count (h ++ (e ∷ []))) ≡ suc (total n (count h)))
         → count (h ++ (e ∷ [])) (suc n) + total n (count (h ++ (e ∷ []))) ≡ suc (count h (suc n) + total n (count h))
-    go (inl t) ih = let p = eqb_eq e.id.editor (suc n) t in
-        let o : count (h ++ (e ∷ [])) (suc n) ≡ suc (count h (suc n)) = subst (λ (j : ℕ). count (h ++ (e ∷ [])) j ≡ suc (count h j)) p (count_own h e) in
-        let s = total_same n h e (omega (arith, p)) in
-        omega (arith, o, s)
-    go (inr t) ih = let ne : (e.id.editor ≡ suc n → ⊥) = λ p. not_both (subst (λ (j : ℕ). eqb e.id.editor j ≡ true) p (eqb_same e.id.editor)) t in
-        let o = count_other h e (suc n) ne in
-        let i = ih (omega (arith, ne, u)) in
-        omega (arith, o, i)
+    go (inl p) ih =
+        let o : count (h ++ (e ∷ [])) (suc n) ≡ suc (count h (suc n)) = rw⁻¹ p (count_own h e) in
+        omega (arith, total_same n h e (omega arith))
+    go (inr ne) ih = omega (arith, count_other h e (suc n) ne, ih (omega arith))
 
 total_none : (n : ℕ) → total n (λ i. 0) ≡ 0
 unfolding total
 total_none zero = refl
-total_none (suc n) = let ih = total_none n in omega (arith, ih)
+total_none (suc n) = omega (arith, total_none n)
 
 -- a clock adds up to the number of edits that it counts
 total_length : {E : Type 0} {h : List (Edit E)} → History h → ((e : Edit E) → e ∈ h → Editor e.id.editor) → total 255 (count h) ≡ length h
 total_length empty ed = total_none 255
-total_length (more {h} e H l n) ed = let o = ed e (in_last h e) in let k = length-append h (e ∷ []) in
-    let a = total_more 255 h e o.0 o.1 in let ih = total_length H (λ d m. ed d (in_left h (e ∷ []) m)) in omega (arith, a, ih, k)
+total_length (more {h} e H l n) ed = let o = ed e (in_last h e) in
+    omega (arith, length_push h e, total_more 255 h e o.0 o.1, total_length H (λ d m. ed d (in_left h (e ∷ []) m)))
 
 module _ {E : Type 0} where
   -- an edit of a history is applied wherever the whole history was accepted
   pub history_applied : {log : List (Edit E)} → History log → (acc : List (Edit E)) → log ⊆ acc → (e : Edit E) → e ∈ log → Applied acc e
-  history_applied empty acc sub e m = absurd (in_nil m)
-  history_applied (more {h} d H l n) acc sub e m = go (in_snoc h d m) (history_applied H acc (λ c k. sub c (in_left h (d ∷ []) k)))
-    where
-      go : (e ∈ h) ⊎ (e ≡ d) → ((c : Edit E) → c ∈ h → Applied acc c) → Applied acc e
-      go (inl k) ih = ih e k
-      go (inr p) ih = subst (Applied acc) (sym p) (applies d (sub d (in_last h d)) (λ a c. (of_ids h (n.covered a c)).0) (λ a c. (of_ids h (n.covered a c)).2) (λ a c. ih _ (of_ids h (n.covered a c)).1))
+  history_applied empty acc sub = λ e m. elim m [ ]
+  history_applied (more {h} d H l n) acc sub = let old : (e : Edit E) → e ∈ h → Applied acc e = history_applied H acc (λ c k. sub c (in_left h (d ∷ []) k)) in
+      each_snoc (Applied acc) h d old
+      (applies d (sub d (in_last h d)) (λ a c. (of_ids h (n.covered a c)).0) (λ a c. (of_ids h (n.covered a c)).2) (λ a c. old _ (of_ids h (n.covered a c)).1))
 
   module _ {before : Id → Id → Bool} {r : Replica E} {acc log : List (Edit E)} (S : Sound before r acc log) (rest : Settled r) where
     pub in_log : {e : Edit E} → Applied acc e → e ∈ log
@@ -73,7 +65,7 @@ module _ {E : Type 0} where
       where
         go : (e ∈ log) ⊎ (e ∈ r.shelf) → ((a : Id) (c : Covers e.clock a) → of a c ∈ log) → e ∈ log
         go (inl k) ih = k
-        go (inr k) ih = absurd (not_both (covered_ready S e (λ a c. subst (λ (b : Id). b ∈ edit_ids log) (same_id a c) (in_ids log (ih a c)))) (rest e k))
+        go (inr k) ih = absurd (both_ways _ (rest e k) (covered_ready S e (λ a c. rw⁻¹ (same_id a c) (in_ids log (ih a c)))))
 
     pub log_applied : (e : Edit E) → e ∈ log → Applied acc e
     log_applied = history_applied S.history acc (λ e m. (S.accepted e).1 (inl m))
@@ -97,28 +89,18 @@ module _ {E : Type 0} where
         left e out (inl k) = absurd (out (log_applied e k))
         left e out (inr k) = k
 
-  abbrev making_of : Making E → Reply E → Making E
-  making_of d (declined f) = d
-  making_of d (edited m n) = m
-
-  abbrev pub IsEdited : Reply E → Type 0
-  IsEdited (declined f) = ⊥
-  IsEdited (edited m n) = Unit {0}
-
   -- a reply that is no refusal: the tests let the edit pass, and it is the own edit
   passed : (before : Id → Id → Bool) (r : Replica E) (own m : Making E) (n : ℕ) (used no_index slotless : Bool) (o : Option Fault) → Allowed (own_waits r) used no_index slotless o
       → (commit before o own r).1 ≡ edited m n → (own ≡ m) × (no_index ≡ false)
-  passed before r own m n used no_index slotless (Some f) a q = absurd (subst IsEdited (sym q) tt)
-  passed before r own m n used no_index slotless None a q = (ap (making_of own) q, a.2)
+  passed before r own m n used no_index slotless (Some f) a q = absurd (cc)
+  passed before r own m n used no_index slotless None a q = (cc, a.2)
 
   module _ {before : Id → Id → Bool} {r : Replica E} {acc log : List (Edit E)} (S : Sound before r acc log) (i : ℕ) (ed : Editor i) (owner : r.editor ≡ Some i) where
     pub puts_at : (k n : ℕ) (x : E) (m : Making E) → (insert before k x r).1 ≡ edited m n → (own_insertion k x r ≡ m) × (k ≤ length (visible r.forest)) × PutAt k m.edit.id x r.forest (apply before m.edit r.forest)
     puts_at k n x m q = (
       u.0,
-      ltb_le (length (visible r.forest)) k u.1,
-      subst (λ (v : Making E). PutAt k v.edit.id x r.forest (apply before v.edit r.forest)) (sym (insertion_is S i ed owner k x) ∙ u.0)
-          (subst (λ (f : Forest E). PutAt k (insertion_made before i log k x).edit.id x f (apply before (insertion_made before i log k x).edit f)) (sym S.forest)
-          (ap visible (sym (tree_snoc before log (insertion_made before i log k x).edit)) ∙ inserts_at before S.history i k x le)),
+      ltb-false (length (visible r.forest)) k u.1,
+      rw⁻¹ (sym (insertion_is S i ed owner k x) ∙ u.0) (rw S.forest (ap visible (sym (tree_snoc before log (insertion_made before i log k x).edit)) ∙ inserts_at before S.history i k x le)),
     )
       where
         u : (own_insertion k x r ≡ m) × (ltb (length (visible r.forest)) k ≡ false)
@@ -126,15 +108,13 @@ module _ {E : Type 0} where
             (allowed_by (next_id r) (own_waits r) (used_up r) (ltb (length (visible r.forest)) k) (full r)) q
 
         le : k ≤ length (visible (tree before log))
-        le = subst (λ (f : Forest E). k ≤ length (visible f)) S.forest (ltb_le (length (visible r.forest)) k u.1)
+        le = rw⁻¹ S.forest (ltb-false (length (visible r.forest)) k u.1)
 
     pub hides_at : (k n : ℕ) (m : Making E) → (delete before k r).1 ≡ edited m n → (own_deletion k r ≡ m) × (k < length (visible r.forest)) × HiddenAt k r.forest (apply before m.edit r.forest)
     hides_at k n m q = (
       u.0,
-      leb_lt (length (visible r.forest)) k u.1,
-      subst (λ (v : Making E). HiddenAt k r.forest (apply before v.edit r.forest)) (sym (deletion_is S i ed owner k) ∙ u.0)
-          (subst (λ (f : Forest E). HiddenAt k f (apply before (deletion_made before i log k).edit f)) (sym S.forest)
-          (ap visible (sym (tree_snoc before log (deletion_made before i log k).edit)) ∙ deletes_at before S.history i k lt)),
+      leb-false (length (visible r.forest)) k u.1,
+      rw⁻¹ (sym (deletion_is S i ed owner k) ∙ u.0) (rw S.forest (ap visible (sym (tree_snoc before log (deletion_made before i log k).edit)) ∙ deletes_at before S.history i k lt)),
     )
       where
         u : (own_deletion k r ≡ m) × (leb (length (visible r.forest)) k ≡ false)
@@ -142,7 +122,7 @@ module _ {E : Type 0} where
             (allowed_by (next_id r) (own_waits r) (used_up r) (leb (length (visible r.forest)) k) false) q
 
         lt : k < length (visible (tree before log))
-        lt = subst (λ (f : Forest E). k < length (visible f)) S.forest (leb_lt (length (visible r.forest)) k u.1)
+        lt = rw⁻¹ S.forest (leb-false (length (visible r.forest)) k u.1)
 
   pub new_sound : (before : Id → Id → Bool) (editor : Option ℕ) (slots room : ℕ) → Sound {E = E} before (new editor slots room) [] []
   new_sound before editor slots room = record {

@@ -1,14 +1,13 @@
 -- Each call carries its clause: the run goes on through it, and the promises hold there.
-use Rattle.std.proofs.Common.{◌≡◌, ℕ, Bool, List, sym, ap, ◌∙◌, subst, inl, inr, append-nil}
+use Rattle.std.proofs.Common.{◌≡◌, ℕ, Bool, List, ap, ◌∙◌, inl, inr}
 use Rattle.edits.specs.declared.id.Id.{Id}
-use Rattle.order.specs.Lists.{with_at}
 use Rattle.order.specs.Edits.{Edit, Order}
 use Rattle.runs.specs.Replicas.{Editor, Replica, insert, delete, Intake}
-use Rattle.runs.specs.Channels.{Channel, Format, AllFit, Sent, Bytes}
+use Rattle.runs.specs.Channels.{Channel, Format, Sent, Bytes}
 use Rattle.runs.specs.Worlds as worlds
 use Rattle.runs.specs.Worlds.{World, after_edit, with_line, after_send, after_fetch, Step, sends, fetches, misreads, finds_none, then, Run}
 use Rattle.runs.specs.Clauses.{GoesOn, untouched, EditsOn, SendsOn, Fetched, FetchesOn}
-use Rattle.runs.proofs.Simulation.{at_same}
+use Rattle.runs.proofs.Simulation.{at_same, none_more}
 use Rattle.runs.proofs.Promises.{promises}
 
 module _ {E X : Type 0} {before : Id → Id → Bool} (O : Order before) (meaning : X → Edit E) where
@@ -28,7 +27,7 @@ module _ {E X : Type 0} {before : Id → Id → Bool} (O : Order before) (meanin
     replicas = at_same w.replicas i d;
     lines = with_line w c k;
     makings = w.makings;
-    accepted = (ap (with_at w.accepted i) (append-nil (w.accepted i)) ∙ at_same w.accepted i) d;
+    accepted = none_more w.accepted i d;
   }
 
   same_send : (w : World E X) (c : ℕ) (k : Channel) → k ≡ (w.lines c).holds → after_send w c k ≡ w
@@ -37,33 +36,26 @@ module _ {E X : Type 0} {before : Id → Id → Bool} (O : Order before) (meanin
   -- the three ways of a fetch
   fetched_on : (w : World E X) (i c : ℕ) → Run before meaning w → Editor i → (k : Channel) (intake : Intake E)
       → Fetched before meaning (w.lines c).format (w.lines c).holds (w.replicas i) k intake → GoesOn before meaning (after_fetch w i c k intake)
-  fetched_on w i c run ed k intake (inl u) = subst (λ (t : Intake E). GoesOn before meaning (after_fetch w i c k t)) (sym u.2)
-      (subst (GoesOn before meaning) (sym (same_world w i c k ∙ same_send w c k u.1)) (goes_on w w run (finds_none c u.0)))
-  fetched_on w i c run ed k intake (inr (inl u)) = subst (λ (t : Intake E). GoesOn before meaning (after_fetch w i c k t)) (sym u.4)
-      (goes_on w _ run (fetches i c u.0 k u.1 ed u.2 u.3))
-  fetched_on w i c run ed k intake (inr (inr u)) = subst (λ (t : Intake E). GoesOn before meaning (after_fetch w i c k t)) (sym u.3)
-      (subst (GoesOn before meaning) (sym (same_world w i c k)) (goes_on w _ run (misreads c u.0 k u.1 u.2)))
+  fetched_on w i c run ed k intake (inl u) = rw u.2 (rw (same_world w i c k ∙ same_send w c k u.1) (goes_on w w run (finds_none c u.0)))
+  fetched_on w i c run ed k intake (inr (inl u)) = rw u.4 (goes_on w _ run (fetches i c u.0 k u.1 ed u.2 u.3))
+  fetched_on w i c run ed k intake (inr (inr u)) = rw u.3 (rw (same_world w i c k) (goes_on w _ run (misreads c u.0 k u.1 u.2)))
 
   pub insert_on : (k : ℕ) (x : E) (r : Replica E) → EditsOn before meaning r (insert before k x r)
   insert_on k x r w i run ed p = (
     promises O meaning w run,
-    subst (λ (q : Replica E). GoesOn before meaning (after_edit w i (insert before k x q))) p (goes_on w _ run (worlds.inserts i k x ed)),
+    rw⁻¹ p (goes_on w _ run (worlds.inserts i k x ed)),
   )
 
   pub delete_on : (k : ℕ) (r : Replica E) → EditsOn before meaning r (delete before k r)
   delete_on k r w i run ed p = (
     promises O meaning w run,
-    subst (λ (q : Replica E). GoesOn before meaning (after_edit w i (delete before k q))) p (goes_on w _ run (worlds.deletes i k ed)),
+    rw⁻¹ p (goes_on w _ run (worlds.deletes i k ed)),
   )
 
   pub send_on : (format : Format X) (h : Channel) (xs : List X) (k : Channel) (rs : List Bytes) (rest : List X) → Sent format h xs k rs rest → SendsOn before meaning format h xs k
-  send_on format h xs k rs rest sent w c run made fit pf ph = goes_on w _ run (sends c xs rest rs k made
-      (subst (λ (f : Format X). AllFit f xs) (sym pf) fit)
-      (subst (λ (f : Format X). Sent f (w.lines c).holds xs k rs rest) (sym pf) (subst (λ (g : Channel). Sent format g xs k rs rest) (sym ph) sent)))
+  send_on format h xs k rs rest sent w c run made fit pf ph = goes_on w _ run (sends c xs rest rs k made (rw pf fit) (rw (pf, ph) sent))
 
   pub fetch_on : (format : Format X) (h : Channel) (r : Replica E) (k : Channel) (intake : Intake E) → Fetched before meaning format h r k intake
       → FetchesOn before meaning format h r k intake
   fetch_on format h r k intake fetched w i c run ed pr pf ph =
-      fetched_on w i c run ed k intake (subst (λ (f : Format X). Fetched before meaning f (w.lines c).holds (w.replicas i) k intake) (sym pf)
-      (subst (λ (g : Channel). Fetched before meaning format g (w.replicas i) k intake) (sym ph)
-      (subst (λ (q : Replica E). Fetched before meaning format h q k intake) (sym pr) fetched)))
+      fetched_on w i c run ed k intake (rw (pf, ph, pr) fetched)

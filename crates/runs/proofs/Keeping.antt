@@ -1,5 +1,5 @@
 -- Edits taken in one after another, and what no call changes: a replica's editor.
-use Rattle.std.proofs.Common.{◌≡◌, ℕ, zero, suc, Bool, List, [], ◌∷◌, ◌++◌, length, Some, None, Option, sym, refl, ◌∙◌, subst, append_assoc, append-nil}
+use Rattle.std.proofs.Common.{◌≡◌, ℕ, zero, suc, Bool, List, [], ◌∷◌, ◌++◌, length, Some, None, Option, refl, ◌∙◌, append_assoc, append-nil}
 use Rattle.edits.specs.declared.id.Id.{Id}
 use Rattle.edits.specs.declared.fault.Fault.{Fault}
 use Rattle.order.specs.Lists.{◌∈◌, here, there, ◌⊆◌}
@@ -68,7 +68,7 @@ module _ {E : Type 0} where
 
   pub feeds : {before : Id → Id → Bool} (es : List (Edit E)) → ((e : Edit E) → e ∈ es → SoundEdit e) → (r : Replica E) (acc log : List (Edit E))
       → Sound before r acc log → Settled r → FedAll before log acc (take_all before es r)
-  feeds {before} [] s r acc log S rest = record { after = record { now = log; onward = stays; sound = subst (λ (l : List (Edit E)). Sound before r l log) (sym (append-nil acc)) S }; settled = rest }
+  feeds {before} [] s r acc log S rest = record { after = record { now = log; onward = stays; sound = rw (append-nil acc) S }; settled = rest }
   feeds {before} (e ∷ es) s r acc log S rest = go (take_in before e r).1 (take_in before e r).0 (takes S rest e (s e (here refl))) (feeds es (λ d m. s d (there m)))
     where
       -- first e, then the others
@@ -76,9 +76,9 @@ module _ {E : Type 0} where
           → After before log i.replica (acc ++ (got ++ i.accepted))
       both r' got A i F = record {
         now = F.after.now;
-        onward = on_as (λ d m. subst (λ (l : List (Edit E)). d ∈ l) (append_assoc acc got i.accepted) m)
+        onward = on_as (λ d m. rw⁻¹ (append_assoc acc got i.accepted) m)
             (onward_then (on_as (λ d m. in_left (acc ++ got) i.accepted m) A.onward) F.after.onward);
-        sound = subst (λ (l : List (Edit E)). Sound before i.replica l F.after.now) (append_assoc acc got i.accepted) F.after.sound;
+        sound = rw⁻¹ (append_assoc acc got i.accepted) F.after.sound;
       }
 
       go : (a : Answer) (r' : Replica E) → Takes before r acc log e (r', a)

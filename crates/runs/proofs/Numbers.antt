@@ -1,7 +1,9 @@
 -- The format `numbers` keeps its law: what is written is read back, ghost fields included, since a test passes in one way only.
-use Rattle.std.proofs.Common.{◌≡◌, ℕ, zero, suc, ◌+◌, ◌≤◌, Bool, true, false, eqb, leb, List, [], ◌∷◌, length, Some, None, Option, sym, refl, ap, ◌∙◌, subst, arith}
+use Rattle.std.proofs.Common.{◌≡◌, ℕ, zero, suc, ◌+◌, ◌≤◌, Bool, true, false, leb, List, [], ◌∷◌, length, Some, None, Option, refl, ap, ◌∙◌, subst, arith, leb-true}
+use Rattle.std.proofs.lemmas.Bool.{and_parts}
 use Rattle.std.specs.List.{list_all}
-use mathlib.Core.Bool.{false≢true, Bool-set}
+use Rattle.std.proofs.Math.Bool.{Bool-set}
+use Rattle.std.proofs.lemmas.Bool.{false≢true}
 use Rattle.edits.specs.declared.id.Id.{Id}
 use Rattle.edits.specs.declared.clock.Pair.{Pair}
 use Rattle.edits.specs.declared.edit.Side.{Side}
@@ -11,15 +13,15 @@ use Rattle.edits.specs.declared.edit.Parent.TheVariants.{Start, Entry}
 use Rattle.edits.specs.declared.edit.Stamp.{Stamp}
 use Rattle.edits.specs.declared.edit.Edit.{Edit as Carried}
 use Rattle.edits.specs.declared.edit.Edit.TheVariants.{Insertion, Deletion}
-use Rattle.order.specs.Lists.{◌∈◌, here, there}
-use Rattle.order.proofs.Ids.{and_true, eqb_eq, leb_le}
-use Rattle.order.proofs.Lists.{in_nil}
+use Rattle.order.specs.Lists.{◌∈◌, here}
+use Rattle.order.proofs.Lists.{each_cons}
 use Rattle.edits.specs.Clocks.{pairs_of}
 use Rattle.edits.specs.Rules.{parent_kept, covers}
 use Rattle.runs.specs.Channels.{Bytes, AllFit, KeepsLaw, Packed}
 use Rattle.runs.specs.Numbers.{put_parent, put_side, put_pairs, put_stamp, put_edit, get_number, get_id, parent_by, get_parent, side_by, get_side, get_pairs, get_stamp, edit_by, get_edit}
 use Rattle.runs.specs.Numbers.{if_some, if_passed, stamp_by, insertion_by, deletion_by, put_first, numbers}
 use Rattle.runs.proofs.Carried.{stamp_rules}
+use Rattle.edits.proofs.Placed.{kept_parts}
 
 -- WHAT IS WRITTEN IS READ BACK
 
@@ -66,23 +68,18 @@ side_long Right r = omega arith
 
 pairs_long : (ps : List Pair) → length (put_pairs ps) ≡ length ps + length ps
 pairs_long [] = refl
-pairs_long (p ∷ ps) = let rest = pairs_long ps in omega arith
+pairs_long (p ∷ ps) = omega (arith, pairs_long ps)
 
 stamp_long : (s : Stamp) → length (put_stamp s) ≡ 35
 stamp_long s =
     let c = s.clock in
-    let test = (and_true (eqb (length c.pairs) 16) _ (stamp_rules s).1).0 in
-    let all : length c.pairs ≡ 16 = eqb_eq (length c.pairs) 16 test in
-    let flat = pairs_long c.pairs in
-    omega arith
+    let all : length c.pairs ≡ 16 = (kept_parts c (stamp_rules s).1).0 in
+    omega (arith, pairs_long c.pairs)
 
 edit_long : (x : Carried ℕ) → length (put_edit x) ≤ 41
 edit_long (Insertion p x) =
-    let a = parent_long p.parent (put_side p.side (x ∷ put_stamp p.stamp)) in
-    let b = side_long p.side (x ∷ put_stamp p.stamp) in
-    let c = stamp_long p.stamp in
-    omega arith
-edit_long (Deletion d) = let c = stamp_long d.stamp in omega arith
+    omega (arith, parent_long p.parent (put_side p.side (x ∷ put_stamp p.stamp)), side_long p.side (x ∷ put_stamp p.stamp), stamp_long p.stamp)
+edit_long (Deletion d) = omega (arith, stamp_long d.stamp)
 
 some_numbers : (x : Carried ℕ) → 1 ≤ length (put_edit x)
 some_numbers (Insertion p x) = omega arith
@@ -91,15 +88,9 @@ some_numbers (Deletion d) = omega arith
 -- WHAT A RECORD HOLDS
 
 small_bytes : (r : Bytes) → list_all (λ n. leb n 255) r ≡ true → (b : ℕ) → b ∈ r → b ≤ 255
-small_bytes [] t b m = absurd (in_nil m)
-small_bytes (n ∷ r) t b m = go m (small_bytes r both.1 b)
-  where
-    both : (leb n 255 ≡ true) × (list_all (λ n. leb n 255) r ≡ true)
-    both = and_true (leb n 255) (list_all (λ n. leb n 255) r) t
-
-    go : b ∈ (n ∷ r) → (b ∈ r → b ≤ 255) → b ≤ 255
-    go (here p) ih = subst (λ (k : ℕ). k ≤ 255) (sym p) (leb_le n 255 both.0)
-    go (there k) ih = ih k
+small_bytes [] t = λ b m. elim m [ ]
+small_bytes (n ∷ r) t = let both = and_parts (leb n 255) (list_all (λ n. leb n 255) r) t in
+    each_cons (λ (b : ℕ). b ≤ 255) n r (leb-true n 255 both.0) (small_bytes r both.1)
 
 -- HOW MANY EDITS ARE READ
 
@@ -156,15 +147,15 @@ edit_one r = number_one r edit_by by
 pub numbers_lawful : KeepsLaw numbers
 numbers_lawful = record {
   packing = packing;
-  reading = λ r xs q. let one : length xs ≡ 1 = subst One q (edit_one r) in (omega (arith, one), omega (arith, one));
+  reading = λ r xs q. let one : length xs ≡ 1 = subst One q (edit_one r) in (omega arith, omega arith);
 }
   where
     packing : (xs : List (Carried ℕ)) → 1 ≤ length xs → AllFit numbers xs → Packed get_edit xs (put_first xs).0 (put_first xs).1
-    packing [] some fit = let no : ⊥ = omega arith in absurd no
+    packing [] some fit = absurd (omega arith)
     packing (x ∷ xs) some fit = record {
       bytes = small_bytes (put_edit x) (fit x (here refl));
       some_bytes = some_numbers x;
-      few_bytes = let few = edit_long x in omega arith;
+      few_bytes = omega (arith, edit_long x);
       some_edits = omega arith;
       at_hand = omega arith;
       read_back = edit_back x;

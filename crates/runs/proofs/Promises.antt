@@ -1,30 +1,29 @@
 -- The promises hold of every run.
-use Rattle.std.proofs.Common.{◌≡◌, ℕ, zero, suc, ◌-◌, ◌<◌, ◌≤◌, Bool, true, false, not, ◌&&◌, eqb, ◌⊎◌, ◌↔◌, List, [], ◌∷◌, ◌++◌, map, length, Some, None, Option, sym, refl, ap, ◌∙◌, subst, inl, inr, arith}
-use Rattle.std.proofs.lemmas.List.{map-append}
+use Rattle.std.proofs.Common.{◌≡◌, ℕ, zero, suc, ◌-◌, ◌<◌, ◌≤◌, Bool, true, false, not, ◌&&◌, eqb, ◌⊎◌, ◌↔◌, List, [], ◌∷◌, map, length, Some, None, Option, sym, refl, ap, ◌∙◌, inl, inr, arith, eqb-true}
+use Rattle.std.proofs.lemmas.Bool.{both_ways, cases_Bool, false_from_ne_true}
 use Rattle.edits.specs.declared.id.Id.{Id}
 use Rattle.edits.specs.declared.fault.Fault.{Fault}
 use Rattle.edits.specs.Ids.{same}
-use Rattle.runs.proofs.Calls.{own_is, number_with}
+use Rattle.runs.proofs.Calls.{own_is}
 use Rattle.order.specs.Lists.{◌∈◌, here, ◌⊆◌}
-use Rattle.order.specs.Edits.{Clock, Edit, Covers, Order, is_insertion}
+use Rattle.order.specs.Edits.{Clock, Edit, Order, is_insertion}
 use Rattle.order.specs.Forests.{Entry, read, visible, apply, tree}
-use Rattle.order.specs.Histories.{count, stands, as_shown, standing, deletes}
+use Rattle.order.specs.Histories.{count, SameEdits, SameCounts, stands, as_shown, standing, deletes}
 use Rattle.order.specs.Systems.{Making, making_edit, edits_of}
 use Rattle.order.specs.Theorems.{PutAt, HiddenAt}
-use Rattle.order.proofs.Ids.{not_both, not_true, eqb_eq, either}
-use Rattle.order.proofs.Lists.{any_true, in_left, keep_alike, any_same, of_map}
+use Rattle.order.proofs.Lists.{any_true, keep_alike, any_same, of_map}
 use Rattle.order.proofs.Histories.{in_ids, one_each, count_part, counted, ids_sub}
-use Rattle.order.proofs.Systems.{Facts, facts, becomes_entry}
+use Rattle.order.proofs.Systems.{Facts, facts, has_own, edits_more, becomes_entry}
 use Rattle.order.proofs.Entries.{part_in_order}
 use Rattle.order.proofs.Systems as systems
 use Rattle.order.proofs.Interleaving.{no_interleaving}
-use Rattle.runs.specs.Replicas.{Editor, Replica, ready, own, own_waits, Pick, nothing, picked, pick, own_insertion, own_deletion, edited, applied, go_on, release, settled, commit, insert, delete, no_insert, no_delete}
+use Rattle.runs.specs.Replicas.{Editor, Replica, ready, own, own_waits, Pick, nothing, picked, pick, own_insertion, own_deletion, edited, applied, go_on, release, settled, applied_with, commit, insert, delete, no_insert, no_delete}
 use Rattle.runs.specs.Worlds.{World, Step, sends, fetches, misreads, finds_none, Leads, no_call, then, Run}
 use Rattle.runs.specs.Worlds as worlds
 use Rattle.runs.specs.Promises.{Applied, Exactly, SameClocks, SameApplied, tree_of_all, Kept}
 use Rattle.runs.proofs.Tests.{Picks, picks, each_within, within_each}
 use Rattle.runs.proofs.Sound.{Settled}
-use Rattle.runs.proofs.Alone.{in_log, log_applied, document, puts_at, hides_at, history_applied, IsEdited}
+use Rattle.runs.proofs.Alone.{in_log, log_applied, document, puts_at, hides_at, history_applied}
 use Rattle.runs.proofs.Simulation.{Sim, run_sim, leads_sim}
 
 -- where none is ready nothing is released
@@ -34,16 +33,13 @@ release_none {E} before (suc n) r rest = go (pick (ready r) r.shelf) (picks (rea
   where
     go : (k : Pick E) → Picks (ready r) r.shelf k → go_on before k r (release before n) ≡ r
     go nothing k = refl
-    go (picked e others) k = absurd (not_both k.passes (rest e k.member))
-
-edit_more : {E X : Type 0} (v : World E X) (ms : List (Making E)) → edits_of v.makings ⊆ edits_of (v.makings ++ ms)
-edit_more {E} v ms e m = subst (λ (l : List (Edit E)). e ∈ l) (sym (map-append making_edit v.makings ms)) (in_left (edits_of v.makings) (edits_of ms) m)
+    go (picked e others) k = absurd (both_ways _ (rest e k.member) k.passes)
 
 -- calls only add to what was made
 module _ {E X : Type 0} {before : Id → Id → Bool} {meaning : X → Edit E} where
   step_more : {v w : World E X} → Step before meaning v w → edits_of v.makings ⊆ edits_of w.makings
-  step_more {v} (worlds.inserts i k x ed) = edit_more v _
-  step_more {v} (worlds.deletes i k ed) = edit_more v _
+  step_more {v} (worlds.inserts i k x ed) = edits_more v.makings _
+  step_more {v} (worlds.deletes i k ed) = edits_more v.makings _
   step_more (sends c xs rest rs k made fit sent) = λ e m. m
   step_more (fetches i c n k xs ed t q) = λ e m. m
   step_more (misreads c n k t q) = λ e m. m
@@ -75,14 +71,14 @@ module _ {E X : Type 0} {before : Id → Id → Bool} (O : Order before) (meanin
     λ same. ap visible (S.sound i).forest ∙ A.1 (edits same) ∙ sym (ap visible (S.sound j).forest),
   )
     where
-      A : (((editor : ℕ) → count (S.logs i) editor ≡ count (S.logs j) editor) ↔ ((e : Edit E) → (e ∈ S.logs i) ↔ (e ∈ S.logs j)))
-          × (((e : Edit E) → (e ∈ S.logs i) ↔ (e ∈ S.logs j)) → visible (tree before (S.logs i)) ≡ visible (tree before (S.logs j)))
+      A : (SameCounts (S.logs i) (S.logs j) ↔ SameEdits (S.logs i) (S.logs j))
+          × (SameEdits (S.logs i) (S.logs j) → visible (tree before (S.logs i)) ≡ visible (tree before (S.logs j)))
       A = systems.agreement F O i j
 
-      counts : SameClocks w i j → (editor : ℕ) → count (S.logs i) editor ≡ count (S.logs j) editor
+      counts : SameClocks w i j → SameCounts (S.logs i) (S.logs j)
       counts same editor = sym (clock_at i editor) ∙ same editor ∙ clock_at j editor
 
-      edits : SameApplied w i j → (e : Edit E) → (e ∈ S.logs i) ↔ (e ∈ S.logs j)
+      edits : SameApplied w i j → SameEdits (S.logs i) (S.logs j)
       edits same e = ((λ m. to_log j ((same e).0 (of_log i e m))), λ m. to_log i ((same e).1 (of_log j e m)))
 
   -- the members of a log that holds exactly the applied edits are those of any other
@@ -107,18 +103,16 @@ module _ {E X : Type 0} {before : Id → Id → Bool} (O : Order before) (meanin
   made_bound d m i = let u = of_map making_edit w.makings m in let M = F.made u.0 u.1 in
       let le = count_part (counted M.history) (counted F.all) (ids_sub M.known (edits_of w.makings) M.part) i in
       let p : d.clock i ≡ count M.known i = ap (λ (e : Edit E). e.clock i) (sym u.2) ∙ ap (λ (f : Clock). f i) M.clock in
-      let q = F.own i in
-      let c = clock_at i i in
-      omega (arith, le, p, q, c)
+      omega (arith, F.own i, clock_at i i)
 
   -- no edit that waits has waited for an edit that is made just now
   nothing_waited : (i : ℕ) (e : Edit E) → e.id.editor ≡ i → Settled (applied before e (w.replicas i))
-  nothing_waited i e own d m = not_true (ready (applied before e (w.replicas i)) d) (λ t. not_both
-      (each_within 255 d.clock (w.replicas i).clock (λ j l u. still t j l u (either (eqb j e.id.editor)))) (S.settled i d m))
+  nothing_waited i e own d m = false_from_ne_true (ready (applied before e (w.replicas i)) d) (λ t. both_ways _ (S.settled i d m)
+      (each_within 255 d.clock (w.replicas i).clock (λ j l u. still t j l u (cases_Bool (eqb j e.id.editor)))))
     where
       still : ready (applied before e (w.replicas i)) d ≡ true → (j : ℕ) → 1 ≤ j → j ≤ 255 → (eqb j e.id.editor ≡ true) ⊎ (eqb j e.id.editor ≡ false)
           → d.clock j ≤ (w.replicas i).clock j
-      still t j l u (inl q) = subst (λ (n : ℕ). d.clock n ≤ (w.replicas i).clock n) (sym (eqb_eq j e.id.editor q ∙ own)) (made_bound d (S.honest i d (((S.sound i).accepted d).1 (inr m))) i)
+      still t j l u (inl q) = rw (eqb-true j e.id.editor q ∙ own) (made_bound d (S.honest i d (((S.sound i).accepted d).1 (inr m))) i)
       still t j l u (inr q) = rw q at (within_each 255 d.clock (applied before e (w.replicas i)).clock t j l u)
 
   none_released : (i : ℕ) (e : Edit E) → e.id.editor ≡ i → settled before e (w.replicas i) ≡ applied before e (w.replicas i)
@@ -127,12 +121,12 @@ module _ {E X : Type 0} {before : Id → Id → Bool} (O : Order before) (meanin
   -- a reply that is no refusal: the edit was applied, and nothing else
   applied_only : (i n : ℕ) (o : Option Fault) (own m : Making E) → own.edit.id.editor ≡ i → own ≡ m → (commit before o own (w.replicas i)).1 ≡ edited m n
       → (commit before o own (w.replicas i)).0.forest ≡ apply before m.edit (w.replicas i).forest
-  applied_only i n (Some f) own m ed p q = absurd (subst IsEdited (sym q) tt)
+  applied_only i n (Some f) own m ed p q = cc
   applied_only i n None own m ed p q = ap (λ (r : Replica E). r.forest) (none_released i own.edit ed) ∙ ap (λ (u : Making E). apply before u.edit (w.replicas i).forest) p
 
   applied_one : (i n : ℕ) (o : Option Fault) (own m : Making E) → own.edit.id.editor ≡ i → (commit before o own (w.replicas i)).1 ≡ edited m n → n ≡ 1
-  applied_one i n (Some f) own m ed q = absurd (subst IsEdited (sym q) tt)
-  applied_one i n None own m ed q = sym (ap number_with q) ∙ ap (λ (r : Replica E). suc (length (w.replicas i).shelf - length r.shelf)) (none_released i own.edit ed) ∙ omega arith
+  applied_one i n (Some f) own m ed q = cc
+  applied_one i n None own m ed q = let z : n ≡ applied_with before own.edit (w.replicas i) = cc in z ∙ ap (λ (r : Replica E). suc (length (w.replicas i).shelf - length r.shelf)) (none_released i own.edit ed) ∙ omega arith
 
   own_number : (i : ℕ) → own (w.replicas i) ≡ i
   own_number i = own_is (w.replicas i) i (S.owner i)
@@ -158,16 +152,11 @@ module _ {E X : Type 0} {before : Id → Id → Bool} (O : Order before) (meanin
       none (d ∷ es) out = absurd (out d (here refl))
 
   no_own_waits : (i : ℕ) → own_waits (w.replicas i) ≡ false
-  no_own_waits i = not_true (own_waits (w.replicas i)) (λ t. out (any_true (λ (e : Edit E). eqb e.id.editor (own (w.replicas i))) (w.replicas i).shelf t))
+  no_own_waits i = false_from_ne_true (own_waits (w.replicas i)) (λ t. out (any_true (λ (e : Edit E). eqb e.id.editor (own (w.replicas i))) (w.replicas i).shelf t))
     where
       out : (d : Edit E) × (d ∈ (w.replicas i).shelf) × (eqb d.id.editor (own (w.replicas i)) ≡ true) → ⊥
-      out u = ((S.sound i).waiting u.0 u.1).1 ((counted (F.each i)).full u.0.id (c.0, subst (λ (n : ℕ). u.0.id.number ≤ n) (sym same_count) c.1))
-        where
-          c : Covers (count (edits_of w.makings)) u.0.id
-          c = (counted F.all).within u.0.id (in_ids (edits_of w.makings) (S.honest i u.0 (((S.sound i).accepted u.0).1 (inr u.1))))
-
-          same_count : count (S.logs i) u.0.id.editor ≡ count (edits_of w.makings) u.0.id.editor
-          same_count = subst (λ (j : ℕ). count (S.logs i) j ≡ count (edits_of w.makings) j) (sym (eqb_eq u.0.id.editor (own (w.replicas i)) u.2 ∙ own_number i)) (F.own i)
+      out u = ((S.sound i).waiting u.0 u.1).1 (has_own F i u.0.id (eqb-true u.0.id.editor (own (w.replicas i)) u.2 ∙ own_number i)
+          (in_ids (edits_of w.makings) (S.honest i u.0 (((S.sound i).accepted u.0).1 (inr u.1)))))
 
   pub kept : Kept before meaning w
   unfolding F

@@ -1,12 +1,12 @@
 -- On the roster of a replica stand its own editor and the editors of all edits that it has accepted.
-use Rattle.std.proofs.Common.{◌≡◌, ℕ, Bool, true, false, cond, eqb, ltb, ◌⊎◌, ◌↔◌, List, [], ◌∷◌, ◌++◌, length, Some, None, Option, sym, refl, ap, ◌∙◌, subst, inl, inr, append_assoc, append-nil}
+use Rattle.std.proofs.Common.{◌≡◌, ℕ, Bool, true, false, cond, eqb, ltb, ◌⊎◌, ◌↔◌, List, [], ◌∷◌, ◌++◌, length, Some, None, Option, sym, refl, ap, ◌∙◌, inl, inr, append_assoc, append-nil, eqb-true}
+use Rattle.std.proofs.lemmas.Bool.{cases_Bool}
 use Rattle.edits.specs.declared.id.Id.{Id}
 use Rattle.edits.specs.declared.fault.Fault.{Fault}
 use Rattle.order.specs.Lists.{◌∈◌, here, there}
 use Rattle.order.specs.Edits.{Edit}
 use Rattle.order.specs.Systems.{Making, edits_of}
-use Rattle.order.proofs.Ids.{either, eqb_eq}
-use Rattle.order.proofs.Lists.{any_true, in_left, in_last, in_snoc, in_nil}
+use Rattle.order.proofs.Lists.{any_true, in_left, in_last, each_snoc}
 use Rattle.runs.specs.Replicas.{Replica, new, placed, with_shelf, listed, enrolled, Verdict, knows, refuses, applies, shelves, Answer, known, refused, taken, verdict, applied, release, judge, take_in, commit, after_one, take_all}
 use Rattle.runs.specs.Worlds.{made_by}
 use Rattle.runs.specs.Promises.{Rostered, accepted_by}
@@ -41,14 +41,14 @@ abbrev Joins : ℕ → List ℕ → List ℕ → Type 0
 Joins i js k = (j : ℕ) → (j ∈ k) ↔ ((j ∈ js) ⊎ (j ≡ i))
 
 joins_listed : (i : ℕ) (js : List ℕ) → i ∈ js → Joins i js js
-joins_listed i js m j = ((λ n. inl n), λ n. elim n [ inl a ↦ a | inr p ↦ subst (λ (k : ℕ). k ∈ js) (sym p) m ])
+joins_listed i js m j = ((λ n. inl n), λ n. elim n [ inl a ↦ a | inr p ↦ rw p m ])
 
 module _ {E : Type 0} where
   enrolled_joins : (e : Edit E) (r : Replica E) → Joins e.id.editor r.roster (enrolled e r).roster
-  enrolled_joins e r = go (either (listed r e.id.editor))
+  enrolled_joins e r = go (cases_Bool (listed r e.id.editor))
     where
       at : listed r e.id.editor ≡ true → e.id.editor ∈ r.roster
-      at t = let u = any_true (eqb e.id.editor) r.roster t in subst (λ (k : ℕ). k ∈ r.roster) (sym (eqb_eq e.id.editor u.0 u.2)) u.1
+      at t = let u = any_true (eqb e.id.editor) r.roster t in rw (eqb-true e.id.editor u.0 u.2) u.1
 
       go : (listed r e.id.editor ≡ true) ⊎ (listed r e.id.editor ≡ false) → Joins e.id.editor r.roster (cond (listed r e.id.editor) r.roster (placed e.id.editor r.roster))
       go (inl t) = rw t (joins_listed e.id.editor r.roster (at t))
@@ -71,28 +71,22 @@ module _ {E : Type 0} where
       now (inl m) = old ((R i).0 m)
       now (inr p) = inr (e, in_last acc e, sym p)
 
-      by_edit : (d : Edit E) → d.id.editor ≡ i → (d ∈ acc) ⊎ (d ≡ e) → i ∈ r'.roster
-      by_edit d p (inl m) = (joins i).1 (inl ((R i).1 (inr (d, m, p))))
-      by_edit d p (inr q) = (joins i).1 (inr (sym p ∙ ap (λ (b : Edit E). b.id.editor) q))
-
       back : Belongs i r'.editor (acc ++ (e ∷ [])) → i ∈ r'.roster
       back (inl p) = (joins i).1 (inl ((R i).1 (inl (sym same ∙ p))))
-      back (inr u) = by_edit u.0 u.2 (in_snoc acc e u.1)
+      back (inr u) = each_snoc (λ (d : Edit E). d.id.editor ≡ i → i ∈ r'.roster) acc e
+          (λ d m p. (joins i).1 (inl ((R i).1 (inr (d, m, p))))) (λ p. (joins i).1 (inr (sym p))) u.0 u.1 u.2
 
   same_rostered : (r : Replica E) (acc : List (Edit E)) → Rostered r acc → Rostered r (acc ++ [])
-  same_rostered r acc R = subst (λ (l : List (Edit E)). Rostered r l) (sym (append-nil acc)) R
+  same_rostered r acc R = rw (append-nil acc) R
 
   pub new_rostered : (editor : Option ℕ) (slots room : ℕ) → Rostered {E = E} (new editor slots room) []
-  new_rostered None slots room i = ((λ m. elim m [ ]), λ u. elim u [ inl p ↦ cc | inr v ↦ absurd (in_nil v.1) ])
-  new_rostered (Some j) slots room i = ((λ m. elim m [ here p ↦ inl (ap Some (sym p)) | there n ↦ absurd (in_nil n) ]), λ u. elim u [ inl p ↦ here (number i j p) | inr v ↦ absurd (in_nil v.1) ])
-    where
-      number : (i j : ℕ) → Some j ≡ Some i → i ≡ j
-      number i j p = cc
+  new_rostered None slots room i = ((λ m. elim m [ ]), λ u. elim u [ inl p ↦ cc | inr v ↦ elim v.1 [ ] ])
+  new_rostered (Some j) slots room i = ((λ m. elim m [ here p ↦ inl (ap Some (sym p)) | there n ↦ elim n [ ] ]), λ u. elim u [ inl p ↦ here (cc) | inr v ↦ elim v.1 [ ] ])
 
   module _ (before : Id → Id → Bool) where
     -- nobody joins by what is released
     released_joins : (i n : ℕ) (js : List ℕ) (r : Replica E) → Joins i js r.roster → Joins i js (release before n r).roster
-    released_joins i n js r joins = subst (λ (k : List ℕ). Joins i js k) (sym (release_keeps before (λ r. r.roster) (λ e others r. refl) n r)) joins
+    released_joins i n js r joins = rw (release_keeps before (λ r. r.roster) (λ e others r. refl) n r) joins
 
     judge_rostered : (v : Verdict) (e : Edit E) (r : Replica E) (acc : List (Edit E)) → Rostered r acc
         → Rostered (judge before v e r).0 (acc ++ accepted_by (judge before v e r).1 e)
@@ -121,6 +115,6 @@ module _ {E : Type 0} where
         go : (a : Answer) (r' : Replica E) → Rostered r' (acc ++ accepted_by a e)
             → ((acc' : List (Edit E)) → Rostered r' acc' → Rostered (take_all before es r').replica (acc' ++ (take_all before es r').accepted))
             → Rostered (after_one before (r', a) e (take_all before es)).replica (acc ++ (after_one before (r', a) e (take_all before es)).accepted)
-        go known r' R' ih = ih acc (subst (λ (l : List (Edit E)). Rostered r' l) (append-nil acc) R')
+        go known r' R' ih = ih acc (rw⁻¹ (append-nil acc) R')
         go (refused f) r' R' ih = R'
-        go (taken n) r' R' ih = subst (λ (l : List (Edit E)). Rostered (take_all before es r').replica l) (append_assoc acc (e ∷ []) (take_all before es r').accepted) (ih (acc ++ (e ∷ [])) R')
+        go (taken n) r' R' ih = rw⁻¹ (append_assoc acc (e ∷ []) (take_all before es r').accepted) (ih (acc ++ (e ∷ [])) R')

@@ -1,18 +1,20 @@
 -- What every call at one replica keeps, whatever edits come in.
-use Rattle.std.proofs.Common.{◌≡◌, ℕ, zero, suc, ◌+◌, ◌≤◌, Bool, true, false, eqb, leb, ◌⊎◌, ◌↔◌, List, [], ◌∷◌, ◌++◌, length, sym, refl, ap, ◌∙◌, subst, inl, inr, arith, length-append}
-use mathlib.Core.Path.{fun_ext}
-use lib.ListN.{length-map}
+use Rattle.std.proofs.Common.{◌≡◌, ℕ, zero, suc, ◌+◌, ◌≤◌, Bool, true, false, leb, ◌⊎◌, ◌↔◌, List, [], ◌∷◌, ◌++◌, length, sym, ap, ◌∙◌, subst, inl, inr, arith, leb-false}
+use Rattle.std.proofs.lemmas.Bool.{both_ways, or_parts}
+use Rattle.std.proofs.Math.Logic.{⊎_map}
+use Rattle.std.proofs.Math.Path.{fun_ext}
+use Rattle.std.proofs.lemmas.List.{length_push, length-map, nil_from_length}
 use Rattle.edits.specs.declared.id.Id.{Id}
 use Rattle.edits.specs.declared.edit.Parent.TheVariants as parent
 use Rattle.edits.specs.Ids.{same}
-use Rattle.order.specs.Lists.{◌∈◌, ◌∉◌, keep, with_at}
+use Rattle.order.specs.Lists.{◌∈◌, ◌∉◌, keep}
 use Rattle.order.specs.Edits.{Clock, Change, insertion, deletion, Edit, Covers, is_insertion}
-use Rattle.order.specs.Forests.{Entry, Forest, read, ids, hide, apply, tree}
+use Rattle.order.specs.Forests.{Entry, read, hide, apply, tree}
 use Rattle.order.specs.Histories.{edit_ids, count, Next, History, more}
-use Rattle.order.proofs.Ids.{either, not_both, or_false, eqb_eq, eqb_same, eq_same, leb_lt}
-use Rattle.order.proofs.Lists.{any_false, in_left, in_last, in_snoc, Distinct, in_nil}
+use Rattle.order.proofs.Ids.{eq_same}
+use Rattle.order.proofs.Lists.{any_false, in_left, in_last, each_snoc, sub_snoc, Distinct, at_each}
 use Rattle.order.proofs.Growing.{Effect, grew_length, effect}
-use Rattle.order.proofs.Histories.{tree_snoc, in_ids, of_ids, ids_snoc, count_own, count_other, counted, next_number}
+use Rattle.order.proofs.Histories.{tree_snoc, in_ids, of_ids, ids_snoc, count_own, count_other, counted, clock_within, next_number}
 use Rattle.order.proofs.Entries.{entries}
 use Rattle.runs.specs.Replicas.{Editor, most_editors, Replica, with_shelf, inserts, waits, is_known, ready, Pick, nothing, picked, pick, applied, go_on, release}
 use Rattle.runs.specs.Promises.{SoundEdit}
@@ -34,10 +36,10 @@ module _ {E : Type 0} where
 
   -- a change puts in one entry at most
   effect_length : (a : Id) (c : Change E) (xs ys : List (Entry E)) → Effect a c xs ys → length ys ≤ length xs + one_if (is_insertion c)
-  effect_length a (insertion parent.Start s x) xs ys g = let l = grew_length g in omega (arith, l)
-  effect_length a (insertion (parent.Entry p) s x) xs ys (inl u) = let l : length ys ≡ length xs = ap length u.0 in omega (arith, l)
-  effect_length a (insertion (parent.Entry p) s x) xs ys (inr u) = let l = grew_length u.0 in omega (arith, l)
-  effect_length a (deletion t) xs ys u = let l : length ys ≡ length xs = ap length u ∙ length-map xs (hide t) in omega (arith, l)
+  effect_length a (insertion parent.Start s x) xs ys g = omega (arith, grew_length g)
+  effect_length a (insertion (parent.Entry p) s x) xs ys (inl u) = let l : length ys ≡ length xs = ap length u.0 in omega arith
+  effect_length a (insertion (parent.Entry p) s x) xs ys (inr u) = omega (arith, grew_length u.0)
+  effect_length a (deletion t) xs ys u = let l : length ys ≡ length xs = ap length u ∙ length-map xs (hide t) in omega arith
 
   -- what the replica r holds that has accepted acc, and has applied log in this order
   pub record Sound (before : Id → Id → Bool) (r : Replica E) (acc log : List (Edit E)) : Type 0 where
@@ -66,35 +68,27 @@ module _ {E : Type 0} where
     ready_next e s new t = record { new = new; covered = λ a c. (counted S.history).full a (c.0, below a c) }
       where
         below : (a : Id) → Covers e.clock a → a.number ≤ count log a.editor
-        below a c = let lo = c.0 in let hi = c.1 in let ed = s.counts a.editor (omega (arith, lo, hi)) in
+        below a c = let ed = s.counts a.editor (omega arith) in
             let le = within_each 255 e.clock r.clock t a.editor ed.0 ed.1 in
             let q = count_clock a.editor in
-            omega (arith, hi, le, q)
+            omega arith
 
     -- an edit is ready when everything that it covers is applied
     pub covered_ready : (e : Edit E) → ((a : Id) → Covers e.clock a → a ∈ edit_ids log) → ready r e ≡ true
-    covered_ready e all = each_within 255 e.clock r.clock (λ i l u. go i (e.clock i) refl)
-      where
-        go : (i n : ℕ) → e.clock i ≡ n → e.clock i ≤ r.clock i
-        go i zero p = omega (arith, p)
-        go i (suc n) p = let a : Id = record { editor = i; number = suc n } in
-            let c = ((counted S.history).within a (all a (omega (arith, p)))).1 in
-            let q = count_clock i in
-            omega (arith, p, c, q)
+    covered_ready e all = each_within 255 e.clock r.clock (λ i l u. omega (arith, clock_within (counted S.history) e.clock all i, count_clock i))
 
     -- an edit that is not known is neither applied nor waiting
     pub unknown_new : (e : Edit E) → is_known r e.id ≡ false → (e.id ∉ edit_ids log) × (e.id ∉ edit_ids r.shelf)
     unknown_new e t = ((λ m. not_applied ((counted S.history).within e.id m)), λ m. not_waiting (of_ids r.shelf m))
       where
         both : (leb e.id.number (r.clock e.id.editor) ≡ false) × (waits r e.id ≡ false)
-        both = or_false (leb e.id.number (r.clock e.id.editor)) (waits r e.id) t
+        both = or_parts (leb e.id.number (r.clock e.id.editor)) (waits r e.id) t
 
         not_applied : Covers (count log) e.id → ⊥
-        not_applied c = let gt = leb_lt e.id.number (r.clock e.id.editor) both.0 in
-            let q = count_clock e.id.editor in let le = c.1 in omega (arith, gt, q, le)
+        not_applied c = omega (arith, leb-false e.id.number (r.clock e.id.editor) both.0, count_clock e.id.editor)
 
         not_waiting : (d : Edit E) × (d ∈ r.shelf) × (d.id ≡ e.id) → ⊥
-        not_waiting u = not_both (eq_same u.0.id e.id u.2) (any_false (λ (d : Edit E). same d.id e.id) r.shelf both.1 u.0 u.1)
+        not_waiting u = both_ways _ (any_false (λ (d : Edit E). same d.id e.id) r.shelf both.1 u.0 u.1) (eq_same u.0.id e.id u.2)
 
     -- e is applied, and others are left on the shelf
     apply_one : (e : Edit E) (others acc' : List (Edit E)) → SoundEdit e → Next log e
@@ -106,57 +100,39 @@ module _ {E : Type 0} where
     apply_one e others acc' s n sub apart out same-acc sizes slot few = record {
       history = more e S.history s.lawful n;
       forest = ap (apply before e) S.forest ∙ sym (tree_snoc before log e);
-      clock = fun_ext (λ i. at i (either (eqb i e.id.editor)));
-      makers = λ d m. maker d (in_snoc log e m);
+      clock = fun_ext (at_each (λ i k. k ≡ count (log ++ (e ∷ [])) i) r.clock e.id.editor e.id.number
+          (next_number (counted S.history) e s.lawful n ∙ sym (count_own log e)) (λ j ne. count_clock j ∙ sym (count_other log e j (λ p. ne (sym p)))));
+      makers = each_snoc (λ (d : Edit E). Editor d.id.editor) log e S.makers s.maker;
       waiting = λ d m. ((S.waiting d (sub d m)).0, λ k. not_there d m (ids_snoc log e k));
       apart = apart;
       accepted = same-acc;
-      sizes = let l = length-append log (e ∷ []) in omega (arith, l, sizes);
-      slots = let l = effect_length e.id e.change (read r.forest) (read (apply before e r.forest)) grown in omega (arith, l, slot);
+      sizes = omega (arith, length_push log e);
+      slots = omega (arith, effect_length e.id e.change (read r.forest) (read (apply before e r.forest)) grown);
       room = few;
       editors = S.editors;
     }
       where
         grown : Effect e.id e.change (read r.forest) (read (apply before e r.forest))
-        grown = effect before e.id e.change r.forest (subst (λ (f : Forest E). Distinct (ids f)) (sym S.forest) (entries before S.history).distinct)
-
-        at : (i : ℕ) → (eqb i e.id.editor ≡ true) ⊎ (eqb i e.id.editor ≡ false) → with_at r.clock e.id.editor e.id.number i ≡ count (log ++ (e ∷ [])) i
-        at i (inl t) = rw t (next_number (counted S.history) e s.lawful n ∙ sym (count_own log e) ∙ ap (count (log ++ (e ∷ []))) (sym (eqb_eq i e.id.editor t)))
-        at i (inr t) = rw t (count_clock i ∙ sym (count_other log e i (λ p. not_both (eqb_same i) (subst (λ (j : ℕ). eqb i j ≡ false) p t))))
-
-        maker : (d : Edit E) → (d ∈ log) ⊎ (d ≡ e) → Editor d.id.editor
-        maker d (inl m) = S.makers d m
-        maker d (inr p) = subst (λ (b : Edit E). Editor b.id.editor) (sym p) s.maker
+        grown = effect before e.id e.change r.forest (rw S.forest (entries before S.history).distinct)
 
         not_there : (d : Edit E) → d ∈ others → (d.id ∈ edit_ids log) ⊎ (d.id ≡ e.id) → ⊥
         not_there d m (inl k) = (S.waiting d (sub d m)).1 k
-        not_there d m (inr p) = out (subst (λ (a : Id). a ∈ edit_ids others) p (in_ids others m))
+        not_there d m (inr p) = out (rw⁻¹ p (in_ids others m))
 
     -- a new edit is applied
     pub apply_new : (e : Edit E) → SoundEdit e → Next log e → e.id ∉ edit_ids r.shelf
         → length (read r.forest) + (one_if (inserts e) + length (keep inserts r.shelf)) ≤ r.slots
         → Sound before (applied before e r) (acc ++ (e ∷ [])) (log ++ (e ∷ []))
     apply_new e s n out slot = apply_one e r.shelf (acc ++ (e ∷ [])) s n (λ d m. m) S.apart out (λ d. (there_now d, back d))
-        (let l = length-append acc (e ∷ []) in let z = S.sizes in omega (arith, l, z)) slot S.room
+        (omega (arith, length_push acc e)) slot S.room
       where
         there_now : (d : Edit E) → d ∈ (acc ++ (e ∷ [])) → (d ∈ (log ++ (e ∷ []))) ⊎ (d ∈ r.shelf)
-        there_now d m = go (in_snoc acc e m)
-          where
-            old : (d ∈ log) ⊎ (d ∈ r.shelf) → (d ∈ (log ++ (e ∷ []))) ⊎ (d ∈ r.shelf)
-            old (inl k) = inl (in_left log (e ∷ []) k)
-            old (inr k) = inr k
-
-            go : (d ∈ acc) ⊎ (d ≡ e) → (d ∈ (log ++ (e ∷ []))) ⊎ (d ∈ r.shelf)
-            go (inl k) = old ((S.accepted d).0 k)
-            go (inr p) = inl (subst (λ (b : Edit E). b ∈ (log ++ (e ∷ []))) (sym p) (in_last log e))
+        there_now = each_snoc (λ (d : Edit E). (d ∈ (log ++ (e ∷ []))) ⊎ (d ∈ r.shelf)) acc e
+            (λ d k. ⊎_map (λ i. in_left log (e ∷ []) i) (λ i. i) ((S.accepted d).0 k)) (inl (in_last log e))
 
         back : (d : Edit E) → (d ∈ (log ++ (e ∷ []))) ⊎ (d ∈ r.shelf) → d ∈ (acc ++ (e ∷ []))
         back d (inr k) = in_left acc (e ∷ []) ((S.accepted d).1 (inr k))
-        back d (inl m) = go (in_snoc log e m)
-          where
-            go : (d ∈ log) ⊎ (d ≡ e) → d ∈ (acc ++ (e ∷ []))
-            go (inl k) = in_left acc (e ∷ []) ((S.accepted d).1 (inl k))
-            go (inr p) = subst (λ (b : Edit E). b ∈ (acc ++ (e ∷ []))) (sym p) (in_last acc e)
+        back d (inl m) = sub_snoc (λ b k. in_left acc (e ∷ []) ((S.accepted b).1 (inl k))) (in_last acc e) d m
 
     -- a waiting edit that is ready leaves the shelf
     pub apply_waiting : (e : Edit E) (others : List (Edit E)) → Picked (ready r) r.shelf e others
@@ -164,9 +140,9 @@ module _ {E : Type 0} where
     apply_waiting e others k = (
       n,
       apply_one e others acc W.0 n k.sub (k.apart S.apart).0 (k.apart S.apart).1 (λ d. (there_now d, back d))
-          (let z = S.sizes in let f = k.fewer in omega (arith, z, f))
-          (let z = S.slots in let f = k.slots in omega (arith, z, f))
-          (let z = S.room in let f = k.fewer in omega (arith, z, f)),
+          (omega arith)
+          (omega arith)
+          (omega arith),
     )
       where
         W : SoundEdit e × (e.id ∉ edit_ids log)
@@ -179,7 +155,7 @@ module _ {E : Type 0} where
         there_now d m = go ((S.accepted d).0 m)
           where
             left : (d ≡ e) ⊎ (d ∈ others) → (d ∈ (log ++ (e ∷ []))) ⊎ (d ∈ others)
-            left (inl p) = inl (subst (λ (b : Edit E). b ∈ (log ++ (e ∷ []))) (sym p) (in_last log e))
+            left (inl p) = inl (rw p (in_last log e))
             left (inr j) = inr j
 
             go : (d ∈ log) ⊎ (d ∈ r.shelf) → (d ∈ (log ++ (e ∷ []))) ⊎ (d ∈ others)
@@ -188,11 +164,7 @@ module _ {E : Type 0} where
 
         back : (d : Edit E) → (d ∈ (log ++ (e ∷ []))) ⊎ (d ∈ others) → d ∈ acc
         back d (inr j) = (S.accepted d).1 (inr (k.sub d j))
-        back d (inl m) = go (in_snoc log e m)
-          where
-            go : (d ∈ log) ⊎ (d ≡ e) → d ∈ acc
-            go (inl j) = (S.accepted d).1 (inl j)
-            go (inr p) = (S.accepted d).1 (inr (subst (λ (b : Edit E). b ∈ r.shelf) (sym p) k.member))
+        back d (inl m) = sub_snoc (λ b j. (S.accepted b).1 (inl j)) ((S.accepted e).1 (inr k.member)) d m
 
   -- a replica after a call: what it has applied then
   pub record After (before : Id → Id → Bool) (log : List (Edit E)) (r : Replica E) (acc : List (Edit E)) : Type 0 where
@@ -214,16 +186,12 @@ module _ {E : Type 0} where
 
   -- after as many releases as there are waiting edits none is ready
   pub release_settles : (before : Id → Id → Bool) (n : ℕ) (r : Replica E) → length r.shelf ≤ n → Settled (release before n r)
-  release_settles before zero r le = λ e m. absurd (none r.shelf le e m)
-    where
-      none : (es : List (Edit E)) → length es ≤ 0 → (e : Edit E) → e ∈ es → ⊥
-      none [] l e k = in_nil k
-      none (d ∷ es) l e k = omega arith
+  release_settles before zero r le = λ e m. elim (subst (λ (l : List (Edit E)). e ∈ l) (nil_from_length r.shelf (omega arith)) m) [ ]
   release_settles before (suc n) r le = go (pick (ready r) r.shelf) (picks (ready r) r.shelf) (release_settles before n)
     where
       go : (k : Pick E) → Picks (ready r) r.shelf k → ((r' : Replica E) → length r'.shelf ≤ n → Settled (release before n r')) → Settled (go_on before k r (release before n))
       go nothing k ih = k
-      go (picked e others) k ih = ih (applied before e (with_shelf others r)) (let f = k.fewer in omega (arith, f, le))
+      go (picked e others) k ih = ih (applied before e (with_shelf others r)) (omega arith)
 
   -- the shelf does not grow
   pub release_fewer : (before : Id → Id → Bool) (n : ℕ) (r : Replica E) → length (release before n r).shelf ≤ length r.shelf
@@ -233,4 +201,4 @@ module _ {E : Type 0} where
       go : (k : Pick E) → Picks (ready r) r.shelf k → ((r' : Replica E) → length (release before n r').shelf ≤ length r'.shelf)
           → length (go_on before k r (release before n)).shelf ≤ length r.shelf
       go nothing k ih = omega arith
-      go (picked e others) k ih = let le = ih (applied before e (with_shelf others r)) in let f = k.fewer in omega (arith, le, f)
+      go (picked e others) k ih = omega (arith, ih (applied before e (with_shelf others r)))

@@ -1,32 +1,29 @@
 -- What the tests of a replica say.
-use Rattle.std.proofs.Common.{◌≡◌, ℕ, zero, suc, ◌+◌, ◌≤◌, Bool, true, false, cond, leb, ◌⊎◌, List, [], ◌∷◌, length, Some, None, Option, refl, ap, ◌∙◌, subst, inl, inr, arith}
+use Rattle.std.proofs.Common.{◌≡◌, ℕ, zero, suc, ◌+◌, ◌≤◌, Bool, true, false, cond, leb, ◌⊎◌, List, [], ◌∷◌, length, Some, None, Option, refl, ap, inl, inr, arith, le-leb, leb-true}
+use Rattle.std.proofs.lemmas.Bool.{cases_lt, and_parts}
+use Rattle.std.proofs.Math.Logic.{⊎_map}
 use Rattle.edits.specs.declared.id.Id.{Id}
 use Rattle.edits.specs.declared.fault.Fault.{Fault}
 use Rattle.order.specs.Lists.{◌∈◌, here, there, ◌∉◌, keep}
 use Rattle.order.specs.Edits.{Clock, Edit}
 use Rattle.order.specs.Histories.{edit_id, edit_ids}
-use Rattle.order.proofs.Ids.{either, and_true, leb_le, le_leb, leb_lt}
-use Rattle.order.proofs.Lists.{in_map, Distinct}
+use Rattle.order.proofs.Lists.{in_map, each_cons, Distinct}
 use Rattle.order.proofs.Histories.{ids_sub}
 use Rattle.runs.specs.Replicas.{within, placed, inserts, Verdict, knows, refuses, applies, shelves, Pick, nothing, picked, behind, pick, judged, barred}
 
 -- every editor from 1 to n
 pub within_each : (n : ℕ) (a b : Clock) → within n a b ≡ true → (i : ℕ) → 1 ≤ i → i ≤ n → a i ≤ b i
 unfolding within
-within_each zero a b t i l u = let no : ⊥ = omega arith in absurd no
-within_each (suc n) a b t i l u = go (either (leb i n)) (within_each n a b)
-  where
-    both : (leb (a (suc n)) (b (suc n)) ≡ true) × (within n a b ≡ true)
-    both = and_true (leb (a (suc n)) (b (suc n))) (within n a b) t
-
-    go : (leb i n ≡ true) ⊎ (leb i n ≡ false) → (within n a b ≡ true → (j : ℕ) → 1 ≤ j → j ≤ n → a j ≤ b j) → a i ≤ b i
-    go (inl k) ih = ih both.1 i l (leb_le i n k)
-    go (inr k) ih = let gt = leb_lt i n k in let last : suc n ≡ i = omega (arith, gt, u) in subst (λ (j : ℕ). a j ≤ b j) last (leb_le (a (suc n)) (b (suc n)) both.0)
+within_each zero a b t i l u = absurd (omega arith)
+within_each (suc n) a b t i l u = let both = and_parts (leb (a (suc n)) (b (suc n))) (within n a b) t in elim (cases_lt n i) [
+  | inl gt ↦ let last : suc n ≡ i = omega arith in rw⁻¹ last (leb-true (a (suc n)) (b (suc n)) both.0)
+  | inr le ↦ within_each n a b both.1 i l le
+]
 
 pub each_within : (n : ℕ) (a b : Clock) → ((i : ℕ) → 1 ≤ i → i ≤ n → a i ≤ b i) → within n a b ≡ true
 unfolding within
 each_within zero a b f = refl
-each_within (suc n) a b f = rw (le_leb (a (suc n)) (b (suc n)) (f (suc n) (omega arith) (omega arith))) (each_within n a b (λ i l u. f i l (omega arith)))
+each_within (suc n) a b f = rw (le-leb (a (suc n)) (b (suc n)) (f (suc n) (omega arith) (omega arith))) (each_within n a b (λ i l u. f i l (omega arith)))
 
 pub placed_length : (i : ℕ) (js : List ℕ) → length (placed i js) ≡ suc (length js)
 placed_length i [] = refl
@@ -88,46 +85,30 @@ module _ {E : Type 0} where
   Picks p es (picked e others) = Picked p es e others
 
   picks_behind : (p : Edit E → Bool) (d : Edit E) (es : List (Edit E)) → p d ≡ false → (k : Pick E) → Picks p es k → Picks p (d ∷ es) (behind d k)
-  picks_behind p d es f nothing none = all
-    where
-      all : (c : Edit E) → c ∈ (d ∷ es) → p c ≡ false
-      all c (here q) = ap p q ∙ f
-      all c (there m) = none c m
+  picks_behind p d es f nothing none = each_cons (λ (c : Edit E). p c ≡ false) d es f none
   picks_behind p d es f (picked e others) k = record {
     passes = k.passes;
     member = there k.member;
-    rest = rest;
-    sub = sub;
+    rest = each_cons (λ (c : Edit E). (c ≡ e) ⊎ (c ∈ (d ∷ others))) d es (inr (here refl)) (λ c m. ⊎_map (λ q. q) (λ n. there n) (k.rest c m));
+    sub = each_cons (λ (c : Edit E). c ∈ (d ∷ es)) d others (here refl) (λ c m. there (k.sub c m));
     fewer = ap suc k.fewer;
-    slots = let a = keep_length d es in let b = keep_length d others in let c = k.slots in omega (arith, a, b, c);
+    slots = omega (arith, keep_length d es, keep_length d others);
     apart = λ a. (((λ m. a.0 (ids_sub others es k.sub d.id m)), (k.apart a.1).0), λ m. out a m);
   }
     where
-      rest : (c : Edit E) → c ∈ (d ∷ es) → (c ≡ e) ⊎ (c ∈ (d ∷ others))
-      rest c (here q) = inr (here q)
-      rest c (there m) = elim (k.rest c m) [ inl q ↦ inl q | inr n ↦ inr (there n) ]
-
-      sub : (c : Edit E) → c ∈ (d ∷ others) → c ∈ (d ∷ es)
-      sub c (here q) = here q
-      sub c (there m) = there (k.sub c m)
-
       out : Distinct (edit_ids (d ∷ es)) → e.id ∈ (d.id ∷ edit_ids others) → ⊥
-      out a (here q) = a.0 (subst (λ (i : Id). i ∈ edit_ids es) q (in_map edit_id es k.member))
+      out a (here q) = a.0 (rw⁻¹ q (in_map edit_id es k.member))
       out a (there m) = (k.apart a.1).1 m
 
   pub picks : (p : Edit E → Bool) (es : List (Edit E)) → Picks p es (pick p es)
   picks p [] = λ d m. elim m [ ]
   picks p (d ∷ es) = go (p d) refl (picks p es)
     where
-      rest : (c : Edit E) → c ∈ (d ∷ es) → (c ≡ d) ⊎ (c ∈ es)
-      rest c (here q) = inl q
-      rest c (there m) = inr m
-
       go : (b : Bool) → p d ≡ b → Picks p es (pick p es) → Picks p (d ∷ es) (cond b (picked d es) (behind d (pick p es)))
       go true t k = record {
         passes = t;
         member = here refl;
-        rest = rest;
+        rest = each_cons (λ (c : Edit E). (c ≡ d) ⊎ (c ∈ es)) d es (inl refl) (λ c m. inr m);
         sub = λ c m. there m;
         fewer = refl;
         slots = keep_length d es;

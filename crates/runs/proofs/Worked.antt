@@ -1,12 +1,13 @@
 -- The worked run, by computing.
-use Rattle.std.proofs.Common.{◌≡◌, ℕ, suc, ◌-◌, ◌<◌, ◌≤◌, Bool, true, false, cond, eqb, leb, ◌⊎◌, List, [], ◌∷◌, ◌++◌, map, length, get_or, set, Some, sym, refl, ap, ◌∙◌, subst, inl, inr, arith}
-use mathlib.Core.Path.{fun_ext}
+use Rattle.std.proofs.Common.{◌≡◌, ℕ, suc, ◌-◌, ◌<◌, ◌≤◌, Bool, true, false, cond, eqb, leb, List, [], ◌∷◌, ◌++◌, map, length, get_or, set, Some, sym, refl, ap, ◌∙◌, inl, arith, eq-eqb, eqb-true}
+use Rattle.std.specs.Cmp.{both_ways}
+use Rattle.std.proofs.Math.Path.{fun_ext}
 use Rattle.edits.specs.declared.edit.Edit.{Edit as Carried}
 use Rattle.edits.specs.Ids.{precedes}
 use Rattle.order.specs.Lists.{◌∈◌, here, there, with_at}
 use Rattle.order.specs.Edits.{Clock, Edit}
 use Rattle.order.specs.Systems.{edits_of}
-use Rattle.order.proofs.Ids.{either, eqb_eq, eqb_same, eqb_apart, not_both}
+use Rattle.order.proofs.Lists.{each_cons}
 use Rattle.runs.specs.Replicas.{within, new, insert, delete, take_all}
 use Rattle.runs.specs.Channels.{Bytes, Channel, AllFit, Put, uncut, one_cut, none_put, one_put, Sent}
 use Rattle.runs.specs.Worlds.{World, Fresh, after_edit, after_send, after_fetch, inserts, deletes, sends, fetches, no_call, then}
@@ -63,15 +64,15 @@ again = fetched applied 2 second
 abbrev last : World ℕ (Carried ℕ)
 last = fetched again 3 third
 
+-- what holds of four holds of each of them
+of_four : {A : Type 0} (P : A → Type 0) {a b c d : A} → P a → P b → P c → P d → (x : A) → x ∈ (a ∷ b ∷ c ∷ d ∷ []) → P x
+of_four P a b c d = each_cons P _ _ a (each_cons P _ _ b (each_cons P _ _ c (each_cons P _ _ d (λ x m. elim m [ ]))))
+
 -- THE CARRIED EDITS MEAN THE EDITS MADE
 
 -- The clock of a made edit tests whether the editor asked for is 1, that of a carried edit whether 1 is the editor asked for.
 turned : (i j : ℕ) → eqb i j ≡ eqb j i
-turned i j = go (either (eqb j i))
-  where
-    go : (eqb j i ≡ true) ⊎ (eqb j i ≡ false) → eqb i j ≡ eqb j i
-    go (inl e) = rw (eqb_eq j i e) refl
-    go (inr e) = rw (e, eqb_apart i j (λ p. not_both (subst (λ (k : ℕ). eqb j k ≡ true) (sym p) (eqb_same j)) e))
+turned i j = both_ways (eqb i j) (eqb j i) (λ t. eq-eqb j i (sym (eqb-true i j t))) (λ t. eq-eqb i j (sym (eqb-true j i t)))
 
 -- a later count of the same editor replaces an earlier one
 replaced : (b : Bool) (m n : ℕ) → cond b n (cond b m 0) ≡ cond b n 0
@@ -94,14 +95,8 @@ abbrev carried : List (Carried ℕ)
 carried = second ∷ first ∷ second ∷ third ∷ []
 
 meant : (x : Carried ℕ) → x ∈ carried → edit_of x ∈ edits_of three.makings
-meant x m = rw made (at m)
-  where
-    at : {x : Carried ℕ} → x ∈ carried → edit_of x ∈ (edit_of first ∷ edit_of second ∷ edit_of third ∷ [])
-    at (here p) = there (here (ap edit_of p))
-    at (there (here p)) = here (ap edit_of p)
-    at (there (there (here p))) = there (here (ap edit_of p))
-    at (there (there (there (here p)))) = there (there (here (ap edit_of p)))
-    at (there (there (there (there m)))) = elim m [ ]
+meant = rw made (of_four (λ (x : Carried ℕ). edit_of x ∈ (edit_of first ∷ edit_of second ∷ edit_of third ∷ []))
+    (there (here refl)) (here refl) (there (here refl)) (there (there (here refl))))
 
 -- THE CALLS
 
@@ -125,29 +120,21 @@ all_sent = record {
 }
 
 fits : AllFit numbers carried
-fits x (here p) = ap numbers.fits p
-fits x (there (here p)) = ap numbers.fits p
-fits x (there (there (here p))) = ap numbers.fits p
-fits x (there (there (there (here p)))) = ap numbers.fits p
-fits x (there (there (there (there m)))) = elim m [ ]
+fits = of_four (λ (x : Carried ℕ). numbers.fits x ≡ true) refl refl refl refl
 
 -- one call leads to the world after the fetch
 fetch : (w : World ℕ (Carried ℕ)) (n : ℕ) (x : Carried ℕ) → n < length (w.lines 0).holds.put → 1 ≤ (w.lines 0).holds.coming
     → (w.lines 0).format.reads (get_or (w.lines 0).holds.put n []) ≡ Some (x ∷ [])
     → ((w.lines 0).holds.coming ≡ 1 → (b : Bool) → b ∈ set (w.lines 0).holds.handed n true → b ≡ true) → Later w (fetched w n x)
 fetch w n x place some e last =
-    then no_call (fetches 2 0 n _ (x ∷ []) (omega arith) (record { place = place; put = refl; handed = refl; fewer = omega arith; last = λ q. last (omega (arith, q)) }) e)
+    then no_call (fetches 2 0 n _ (x ∷ []) (omega arith) (record { place = place; put = refl; handed = refl; fewer = omega arith; last = λ q. last (omega arith) }) e)
 
 -- more than one answer is to come
 not_one : {A : Type 0} {n : ℕ} → 2 ≤ n → n ≡ 1 → A
-not_one le q = let no : ⊥ = omega (arith, le, q) in absurd no
+not_one le q = let no : ⊥ = omega arith in absurd no
 
 all_handed : (b : Bool) → b ∈ (true ∷ true ∷ true ∷ true ∷ []) → b ≡ true
-all_handed b (here p) = p
-all_handed b (there (here p)) = p
-all_handed b (there (there (here p))) = p
-all_handed b (there (there (there (here p)))) = p
-all_handed b (there (there (there (there m)))) = elim m [ ]
+all_handed = of_four (λ (b : Bool). b ≡ true) refl refl refl refl
 
 pub worked : Worked "B"
 unfolding within
