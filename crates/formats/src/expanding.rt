@@ -61,6 +61,7 @@ impl Record<'_> {
     }
 }
 
+// By the plain fields of a record: a struct of them would be `Placement`, which only parts that keep the rules make.
 /// The insertion of the element that the bytes stand for.
 fn insertion<K: Kind>(
     id: Id,
@@ -77,6 +78,7 @@ fn insertion<K: Kind>(
     Ok(Edit::Insertion { placement, element })
 }
 
+/// The deletion of the target.
 fn deletion<K: Kind>(id: Id, clock: Clock, target: Id) -> Result<Edit<K>, Fault>
     ensures { MatchResult result (λ e. plain e ≡ deletes id (pairs_of clock) target) (λ f. (f ≡ OutsideLimits) × (stamp_kept id clock ≡ true → covers (pairs_of clock) target ≢ true)) }
 {

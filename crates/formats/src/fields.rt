@@ -87,6 +87,7 @@ impl Reader<'_> {
     }
 }
 
+// No `From<Id> for Parent`: only a record writes the start as 0.0, and the impl would have to stand in `edits`.
 /// What an identifier in a parent's place stands for: 0.0 is the start.
 fn parent_of(id: Id) -> Parent
     ensures { result ≡ parent_of id }
