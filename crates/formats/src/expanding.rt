@@ -1,5 +1,5 @@
 //! The edits that a record stands for.
-ghost use Rattle.std.specs.Prelude.{◌≡◌, ◌+◌, ◌-◌, ◌*◌, ◌<◌, ◌≤◌, true, length, take, drop, Some, None, MatchResult, ◌≢◌};
+ghost use Rattle.std.specs.Prelude.{◌≡◌, ◌+◌, ◌-◌, ◌*◌, ◌<◌, true, length, take, drop, Some, None, MatchResult, ◌≢◌};
 ghost use Rattle.edits.specs.declared.edit.Parent.TheVariants.{Entry};
 ghost use Rattle.edits.specs.declared.edit.Side.TheVariants.{Right};
 ghost use Rattle.edits.specs.declared.fault.Fault.TheVariants.{OutsideLimits};

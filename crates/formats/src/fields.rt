@@ -1,8 +1,7 @@
 //! The fields of a record, tested in order as they are read.
-ghost use Rattle.std.specs.Prelude.{◌≡◌, ◌+◌, ◌*◌, ◌<◌, ◌≤◌, true, length, IfOk, OnOk, Ok, Err, MatchResult};
+ghost use Rattle.std.specs.Prelude.{◌≡◌, ◌+◌, ◌*◌, ◌<◌, length, IfOk, OnOk, Ok, Err, MatchResult};
 ghost use Rattle.edits.specs.Clocks.{pairs_of};
-ghost use Rattle.edits.specs.Rules.{parent_kept};
-ghost use Rattle.formats.specs.Fields.{id_at, name_at, stamp_at, side_at, parent_of, place_at, placement_at, placement_parts, removal_at, removal_parts};
+ghost use Rattle.formats.specs.Fields.{id_at, name_at, stamp_at, side_at, parent_of, placement_at, placement_parts, removal_at, removal_parts};
 ghost use Rattle.formats.specs.Readers.{MovesTo};
 
 use crate::reader::Reader;
