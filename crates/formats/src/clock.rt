@@ -7,6 +7,9 @@ ghost use Rattle.formats.specs.Readers.{MovesTo};
 use crate::reader::Reader;
 use edits::{Clock, Fault, Pair};
 
+/// How many pairs a clock lists at most.
+const MOST_PAIRS: u8 = 16;
+
 impl Reader<'_> {
     /// A pair, whose editor comes behind `last`.
     fn pair(&mut self, last: u8) -> Result<Pair, Fault>
@@ -28,13 +31,13 @@ impl Reader<'_> {
     {
         let place = self.at;
         let len = self.byte()?;
-        if len > 16 {
+        if len > MOST_PAIRS {
             return Err(Fault::Pairs(place));
         }
         let mut pairs = [Pair {
             editor: 0,
             count: 0,
-        }; 16];
+        }; MOST_PAIRS as usize];
         let mut last = 0;
         for pair in &mut pairs[..usize::from(len)] {
             *pair = self.pair(last)?;

@@ -26,6 +26,7 @@ impl<'a> Reader<'a> {
         ensures { MatchResult result (λ b. (all_at K.Kind.WIDTH K.Kind.unpacked len self.old.input.now self.old.at ≡ Ok tt) × (b.now ≡ take (len * K.Kind.WIDTH) (drop self.old.at self.old.input.now)) × (length b.now ≡ len * K.Kind.WIDTH) × MovesTo self.old self.new (self.old.at + len * K.Kind.WIDTH)) (λ e. all_at K.Kind.WIDTH K.Kind.unpacked len self.old.input.now self.old.at ≡ Err e) }
     {
         let start = self.at;
+        // Not over the bytes cut up beforehand: a refused element comes before one that is cut off.
         for _ in 0..len {
             self.element::<K>()?;
         }

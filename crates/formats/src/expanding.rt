@@ -1,5 +1,5 @@
 //! The edits that a record stands for.
-ghost use Rattle.std.specs.Prelude.{◌≡◌, ◌+◌, ◌-◌, ◌*◌, ◌<◌, ◌≤◌, true, length, take, drop, Some, None, MatchOption, MatchResult, ◌≢◌};
+ghost use Rattle.std.specs.Prelude.{◌≡◌, ◌+◌, ◌-◌, ◌*◌, ◌<◌, true, length, take, drop, Some, None, MatchResult, ◌≢◌};
 ghost use Rattle.edits.specs.declared.edit.Parent.TheVariants.{Entry};
 ghost use Rattle.edits.specs.declared.edit.Side.TheVariants.{Right};
 ghost use Rattle.edits.specs.declared.fault.Fault.TheVariants.{OutsideLimits};
@@ -51,7 +51,7 @@ impl Record<'_> {
                 elements,
                 ..
             } => {
-                let element = element_of::<K>(elements, i).ok_or(Fault::OutsideLimits)?;
+                let element = element_of::<K>(elements, i)?;
                 match i.checked_sub(1) {
                     None => insertion::<K>(id, clock, parent, side, element),
                     Some(before) => later::<K>(id, &clock, before, element),
@@ -61,6 +61,7 @@ impl Record<'_> {
     }
 }
 
+// By the plain fields of a record: a struct of them would be `Placement`, which only parts that keep the rules make.
 /// The insertion of the element that the bytes stand for.
 fn insertion<K: Kind>(
     id: Id,
@@ -77,6 +78,7 @@ fn insertion<K: Kind>(
     Ok(Edit::Insertion { placement, element })
 }
 
+/// The deletion of the target.
 fn deletion<K: Kind>(id: Id, clock: Clock, target: Id) -> Result<Edit<K>, Fault>
     ensures { MatchResult result (λ e. plain e ≡ deletes id (pairs_of clock) target) (λ f. (f ≡ OutsideLimits) × (stamp_kept id clock ≡ true → covers (pairs_of clock) target ≢ true)) }
 {
@@ -107,10 +109,11 @@ fn id_further(id: Id, n: usize) -> Result<Id, Fault>
 }
 
 /// The bytes of the element at the place `i`.
-fn element_of<K: Kind>(elements: &[u8], i: usize) -> Option<&[u8]>
-    ensures { MatchOption result (length elements.now < i * K.Kind.WIDTH + K.Kind.WIDTH) (λ b. b.now ≡ take K.Kind.WIDTH (drop (i * K.Kind.WIDTH) elements.now)) }
+fn element_of<K: Kind>(elements: &[u8], i: usize) -> Result<&[u8], Fault>
+    ensures { MatchResult result (λ b. b.now ≡ take K.Kind.width (drop (i * K.Kind.width) elements.now)) (λ f. (f ≡ OutsideLimits) × (length elements.now < i * K.Kind.width + K.Kind.width)) }
 {
-    // By the offset, since `chunks_exact(..).nth(i)` would walk over the elements before it.
-    let start = i.checked_mul(K::WIDTH)?;
-    elements.get(start..)?.get(..K::WIDTH)
+    elements
+        .chunks_exact(K::bytes())
+        .nth(i)
+        .ok_or(Fault::OutsideLimits)
 }

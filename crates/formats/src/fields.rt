@@ -1,12 +1,11 @@
 //! The fields of a record, tested in order as they are read.
-ghost use Rattle.std.specs.Prelude.{◌≡◌, ◌+◌, ◌*◌, ◌<◌, ◌≤◌, true, length, IfOk, OnOk, Ok, Err, MatchResult};
+ghost use Rattle.std.specs.Prelude.{◌≡◌, ◌+◌, ◌*◌, ◌<◌, length, IfOk, OnOk, Ok, Err, MatchResult};
 ghost use Rattle.edits.specs.Clocks.{pairs_of};
-ghost use Rattle.edits.specs.Rules.{parent_kept};
-ghost use Rattle.formats.specs.Fields.{id_at, name_at, stamp_at, side_at, parent_of, place_at, placement_at, placement_parts, removal_at, removal_parts};
+ghost use Rattle.formats.specs.Fields.{id_at, name_at, stamp_at, side_at, parent_of, placement_at, placement_parts, removal_at, removal_parts};
 ghost use Rattle.formats.specs.Readers.{MovesTo};
 
 use crate::reader::Reader;
-use edits::{Clock, Fault, Id, Parent, Placement, Removal, Side, Stamp, own_kept, parent_kept};
+use edits::{Fault, Id, Parent, Placement, Removal, Side, Stamp, own_kept};
 
 impl Reader<'_> {
     /// An editor and a number, whatever they are.
@@ -65,32 +64,15 @@ impl Reader<'_> {
         }
     }
 
-    /// Parent and side behind a head with the clock.
-    fn place(&mut self, clock: &Clock) -> Result<(Parent, Side), Fault>
-        ensures value { result ≡ place_at (pairs_of clock.now) self.old.input.now self.old.at }
-        ensures hung { IfOk result (λ x. (parent_kept (pairs_of clock.now) x.0 x.1 ≡ true) × MovesTo self.old self.new (self.old.at + 4)) }
-    {
-        let parent_place = self.at;
-        let parent = parent_of(self.id()?);
-        let side = self.side()?;
-        if parent_kept(clock, parent, side) {
-            Ok((parent, side))
-        } else {
-            Err(Fault::Reference(parent_place))
-        }
-    }
-
     /// Head, parent and side of an insertion or of a run's first.
     pub(crate) fn placement(&mut self) -> Result<Placement, Fault>
         ensures { MatchResult result (λ x. (placement_at self.old.input.now self.old.at ≡ Ok (placement_parts x)) × MovesTo self.old self.new (self.old.at + 8 + 3 * length (pairs_of x.stamp.clock))) (λ e. placement_at self.old.input.now self.old.at ≡ Err e) }
     {
         let stamp = self.stamp()?;
-        let (parent, side) = self.place(&stamp.clock)?;
-        Ok(Placement {
-            stamp,
-            parent,
-            side,
-        })
+        let parent_place = self.at;
+        let parent = parent_of(self.id()?);
+        let side = self.side()?;
+        Placement::new(stamp, parent, side).map_err(|_| Fault::Reference(parent_place))
     }
 
     /// Head and target of a deletion.
@@ -100,14 +82,11 @@ impl Reader<'_> {
         let stamp = self.stamp()?;
         let target_place = self.at;
         let target = self.id()?;
-        if stamp.clock.covers(target) {
-            Ok(Removal { stamp, target })
-        } else {
-            Err(Fault::Reference(target_place))
-        }
+        Removal::new(stamp, target).map_err(|_| Fault::Reference(target_place))
     }
 }
 
+// No `From<Id> for Parent`: only a record writes the start as 0.0, and the impl would have to stand in `edits`.
 /// What an identifier in a parent's place stands for: 0.0 is the start.
 fn parent_of(id: Id) -> Parent
     ensures { result ≡ parent_of id }

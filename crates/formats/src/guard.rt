@@ -1,6 +1,7 @@
 //! The guard on the reading offset.
 ghost use Rattle.std.specs.Prelude.{◌≡◌, unwrap_or};
 
+// A guard, since the offset is the caller's own number and goes back on every way out but one.
 /// Holds the caller's offset while a record is read.
 pub(crate) struct Guard<'a> {
     pub(crate) at: &'a mut usize,
@@ -9,6 +10,7 @@ pub(crate) struct Guard<'a> {
 }
 
 impl Drop for Guard<'_> {
+    /// Puts the offset back.
     fn drop(self)
         ensures { self.exit.0.now ≡ unwrap_or self.entry.back_to self.entry.at.now }
     {

@@ -24,10 +24,7 @@ impl Format {
     pub fn has_runs(self) -> bool
         ensures { result ≡ has_runs self }
     {
-        match self {
-            Format::Six => false,
-            Format::Seven => true,
-        }
+        matches!(self, Format::Seven)
     }
 }
 

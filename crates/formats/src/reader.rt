@@ -37,17 +37,12 @@ impl<'a> Reader<'a> {
         Ok(bytes)
     }
 
+    /// The next byte.
     pub(crate) fn byte(&mut self) -> Result<u8, Fault>
         ensures value { result ≡ byte_at self.old.input.now self.old.at }
         ensures moved { OnOk result (MovesTo self.old self.new (self.old.at + 1)) }
     {
-        let byte = self
-            .input
-            .get(self.at)
-            .copied()
-            .ok_or(Fault::Extent(self.input.len()))?;
-        self.at += 1;
-        Ok(byte)
+        Ok(self.bytes(1)?[0])
     }
 
     /// A number of two bytes, the higher first.
@@ -55,8 +50,6 @@ impl<'a> Reader<'a> {
         ensures value { result ≡ two_at self.old.input.now self.old.at }
         ensures moved { OnOk result (MovesTo self.old self.new (self.old.at + 2)) }
     {
-        let high = self.byte()?;
-        let low = self.byte()?;
-        Ok(u16::from_be_bytes([high, low]))
+        Ok(u16::from_be_bytes([self.byte()?, self.byte()?]))
     }
 }

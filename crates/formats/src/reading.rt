@@ -13,6 +13,9 @@ use crate::record::Record;
 use edits::{Fault, Id};
 use elements::Kind;
 
+/// How many elements a run has at most.
+const LONGEST_RUN: u8 = 64;
+
 impl<'a> Reader<'a> {
     /// An insertion, from behind its mark.
     fn insertion<K: Kind>(&mut self) -> Result<Record<'a>, Fault>
@@ -50,13 +53,14 @@ impl<'a> Reader<'a> {
     {
         let place = self.at;
         let len = self.byte()?;
-        if !(2..=64).contains(&len) {
+        if !(2..=LONGEST_RUN).contains(&len) {
             return Err(Fault::RunLength(place));
         }
-        if u32::from(id.number) + u32::from(len) > 65536 {
-            return Err(Fault::Numbering(place));
+        // The last of the run must have a number too.
+        match id.number.checked_add(u16::from(len) - 1) {
+            Some(_) => Ok(len),
+            None => Err(Fault::Numbering(place)),
         }
-        Ok(len)
     }
 
     /// A run, likewise.
@@ -111,6 +115,7 @@ pub fn read_record<'a, K: Kind>(
     };
     let mut reader = Reader::new(input, mark)?;
     let bytes = [reader.byte()?, reader.byte()?];
+    // While the fields are read the offset stands behind the mark; the guard puts it back.
     *guard.at = reader.at;
     let record = reader.fields::<K>(format, bytes, mark)?;
     *guard.at = reader.at;

@@ -2,6 +2,7 @@
 use edits::{Clock, Id, Parent, Side};
 
 // The fields are plain ones, no `Placement` or `Removal`: a caller may put any together, and `edit` answers for all.
+// `offset` and `len` stand beside the bytes: where they lie in the input is promised, and a record knows no kind.
 /// A record that was read. Its element bytes are the input's own, from `offset` on.
 #[derive(Clone, Copy)]
 pub enum Record<'a> {

@@ -16,5 +16,5 @@ loop-pair-preserved c = record {
 
 pub returns : goal.returns
 returns c =
-    let h = all_filled _ _ _ c.from.result _ _ _ _ (sym c.in_ok-len.ensures.value) c.if-len-gt16.false c.loop-pair.invariant.filled (search rules) (search rules) (search rules) in
+    let h = all_filled _ _ _ c.from.result _ _ _ _ (sym c.in_ok-len.ensures.value) (search rules) c.loop-pair.invariant.filled (search rules) (search rules) (search rules) in
     (h.0, h.1, (c.loop-pair.invariant.same, h.2))
