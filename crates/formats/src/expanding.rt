@@ -110,10 +110,10 @@ fn id_further(id: Id, n: usize) -> Result<Id, Fault>
 
 /// The bytes of the element at the place `i`.
 fn element_of<K: Kind>(elements: &[u8], i: usize) -> Result<&[u8], Fault>
-    ensures { MatchResult result (λ b. b.now ≡ take K.Kind.width (drop (i * K.Kind.width) elements.now)) (λ f. (f ≡ OutsideLimits) × (length elements.now < i * K.Kind.width + K.Kind.width)) }
+    ensures { MatchResult result (λ b. b.now ≡ take K.Kind.WIDTH (drop (i * K.Kind.WIDTH) elements.now)) (λ f. (f ≡ OutsideLimits) × (length elements.now < i * K.Kind.WIDTH + K.Kind.WIDTH)) }
 {
     elements
-        .chunks_exact(K::bytes())
+        .chunks_exact(K::WIDTH)
         .nth(i)
         .ok_or(Fault::OutsideLimits)
 }
