@@ -106,12 +106,14 @@ impl<E: Copy> Replica<E> {
         match edit {
             Edit::Insertion { placement, element } => {
                 // Never refused: a slot is kept for it.
-                let _ = self.tree.insert(
-                    placement.stamp.id,
-                    placement.parent,
-                    placement.side,
-                    *element,
-                );
+                self.tree
+                    .insert(
+                        placement.stamp.id,
+                        placement.parent,
+                        placement.side,
+                        *element,
+                    )
+                    .unwrap();
             }
             Edit::Deletion(removal) => {
                 self.tree.delete(removal.target);

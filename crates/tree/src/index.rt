@@ -58,7 +58,7 @@ impl Index {
     {
         if let Err(at) = self.search(id) {
             // Never refused: there is memory for every slot.
-            let _ = self.places.insert(at, Place { id, slot });
+            self.places.insert(at, Place { id, slot }).unwrap();
         }
     }
 

@@ -45,6 +45,7 @@ impl Reading {
     pub(crate) fn restart(&mut self, entries: usize)
         requires { entries ≤ self.old.most }
         ensures order { self.new.order.items ≡ [] }
+        ensures indexes { vec_len self.new.indexes ≡ entries }
         ensures most { self.new.most ≡ self.old.most }
         ensures shown { self.new.shown ≡ 0 }
     {
@@ -52,7 +53,7 @@ impl Reading {
         self.indexes.clear();
         self.shown = 0;
         // Never refused: there is memory for as many.
-        let _ = self.indexes.resize(entries, None);
+        self.indexes.resize(entries, None).unwrap();
     }
 
     /// Lists slots in place of what was read before, each with whether its entry is shown.
