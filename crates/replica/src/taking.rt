@@ -131,6 +131,7 @@ impl<E: Copy> Replica<E> {
         let mut released = 0;
         while let Some(edit) = self.shelf.take_ready(&self.roster) {
             self.apply(&edit);
+            // Counted by hand: a chain whose closure changes the replica would tell nothing of it.
             released += 1;
         }
         released

@@ -50,6 +50,7 @@ impl Index {
     }
 
     /// Puts a new identifier in its place.
+    // That the limit stays relates two states, which no invariant of the type can say.
     pub(crate) fn add(&mut self, id: Id, slot: usize)
         requires { vec_len self.old.places < self.old.most }
         ensures most { self.new.most ≡ self.old.most }

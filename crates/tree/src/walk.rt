@@ -10,7 +10,7 @@ use edits::{Fault, Side};
 use std::iter::successors;
 
 impl<E: Copy> Tree<E> {
-    /// The slot at the end of the left links: what is read first of an entry and all below it.
+    /// The slot at the end of the left links: what is read first of an entry and all below it. The order is not yet a promise.
     fn leftmost(&self, slot: usize) -> usize {
         successors(Some(slot), |at| self.follow(Link::Left(*at)))
             .take(self.nodes.len())
@@ -19,7 +19,7 @@ impl<E: Copy> Tree<E> {
     }
 
     /// The slot that is read after a slot: the first of its right children, or else of its next sibling, or else its
-    /// parent if it is a left child, or else what follows the parent likewise.
+    /// parent if it is a left child, or else what follows the parent likewise. The order is not yet a promise.
     fn after(&self, slot: usize) -> Option<usize> {
         if let Some(right) = self.follow(Link::Right(slot)) {
             return Some(self.leftmost(right));
