@@ -1,6 +1,6 @@
 //! The entries in reading order, found by links: no stack, no recursion. No walk takes more steps than there are
 //! entries, which ends it whatever the links are.
-ghost use Rattle.std.specs.Prelude.{◌≡◌, ◌<◌, ◌≤◌, vec_len, MatchResult, OnOk};
+ghost use Rattle.std.specs.Prelude.{◌≡◌, ◌<◌, ◌≤◌, None, vec_len, MatchResult, OnOk};
 ghost use Rattle.edits.specs.declared.fault.Fault.TheVariants.{WrongSize};
 
 use crate::link::Link;
@@ -20,7 +20,9 @@ impl<E: Copy> Tree<E> {
 
     /// The slot that is read after a slot: the first of its right children, or else of its next sibling, or else its
     /// parent if it is a left child, or else what follows the parent likewise. The order is not yet a promise.
-    fn after(&self, slot: usize) -> Option<usize> {
+    fn after(&self, slot: usize) -> Option<usize>
+        ensures { vec_len self.now.nodes ≤ slot → result ≡ None }
+    {
         if let Some(right) = self.follow(Link::Right(slot)) {
             return Some(self.leftmost(right));
         }
