@@ -17,7 +17,7 @@ pub struct Replica<E: Copy> {
 }
 
 /// The answer to an edit that is taken in.
-// No `Option<usize>`: a `None` would not say what became of the edit.
+// No `Option<usize>`: a `None` would not say what became of the edit, and 0 is a count: nothing was applied yet.
 #[derive(Clone, Copy, PartialEq, Eq, Debug)]
 pub enum Taken {
     /// It was applied before, or waits already.

@@ -78,7 +78,7 @@ impl Roster {
     {
         if let Err(place) = self.place(editor) {
             // Never refused: there is memory for every editor.
-            let _ = self.pairs.insert(place, Pair { editor, count: 0 });
+            self.pairs.insert(place, Pair { editor, count: 0 }).unwrap();
         }
     }
 

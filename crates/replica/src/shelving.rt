@@ -1,5 +1,5 @@
 //! Edits put on the shelf and taken off it.
-ghost use Rattle.std.specs.Prelude.{◌≡◌, ◌+◌, ◌<◌, [], ◌∷◌, ◌++◌, IfSome, IfNone, Some, None, vec_len, MatchResult, OnSome, nat_le, slice_get, remove};
+ghost use Rattle.std.specs.Prelude.{◌≡◌, ◌+◌, ◌<◌, [], ◌∷◌, ◌++◌, IfSome, IfNone, IsSomeAnd, Some, None, vec_len, MatchResult, OnSome, nat_le, slice_get, remove};
 ghost use Rattle.edits.specs.declared.fault.Fault.TheVariants.{NoMemory};
 ghost use Rattle.replica.specs.Shelves.{waits, insertions, first_ready, lowest_from};
 
@@ -61,7 +61,7 @@ impl<E: Copy> Shelf<E> {
     /// Takes the first edit that is ready off the shelf.
     pub(crate) fn take_ready(&mut self, roster: &Roster) -> Option<Edit<E>>
         ensures none { IfNone result ((first_ready roster.now.pairs.items self.old.edits.items ≡ None) × (self.new ≡ self.old)) }
-        ensures taken { IfSome result (λ e. IfSome (first_ready roster.now.pairs.items self.old.edits.items) (λ k. (slice_get self.old.edits.items k ≡ Some e) × (self.new.edits.items ≡ remove self.old.edits.items k))) }
+        ensures taken { IfSome result (λ e. IsSomeAnd (first_ready roster.now.pairs.items self.old.edits.items) (λ k. (slice_get self.old.edits.items k ≡ Some e) × (self.new.edits.items ≡ remove self.old.edits.items k))) }
         ensures insertions { IfSome result (λ e. insertions (e ∷ self.new.edits.items) ≡ insertions self.old.edits.items) }
         ensures falls { OnSome result (vec_len self.new.edits + 1 ≡ vec_len self.old.edits) }
         ensures room { self.new.room ≡ self.old.room }

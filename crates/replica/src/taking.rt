@@ -106,12 +106,14 @@ impl<E: Copy> Replica<E> {
         match edit {
             Edit::Insertion { placement, element } => {
                 // Never refused: a slot is kept for it.
-                let _ = self.tree.insert(
-                    placement.stamp.id,
-                    placement.parent,
-                    placement.side,
-                    *element,
-                );
+                self.tree
+                    .insert(
+                        placement.stamp.id,
+                        placement.parent,
+                        placement.side,
+                        *element,
+                    )
+                    .unwrap();
             }
             Edit::Deletion(removal) => {
                 self.tree.delete(removal.target);
@@ -129,6 +131,7 @@ impl<E: Copy> Replica<E> {
         let mut released = 0;
         while let Some(edit) = self.shelf.take_ready(&self.roster) {
             self.apply(&edit);
+            // Counted by hand: a chain whose closure changes the replica would tell nothing of it.
             released += 1;
         }
         released

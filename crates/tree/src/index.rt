@@ -50,6 +50,7 @@ impl Index {
     }
 
     /// Puts a new identifier in its place.
+    // That the limit stays relates two states, which no invariant of the type can say.
     pub(crate) fn add(&mut self, id: Id, slot: usize)
         requires { vec_len self.old.places < self.old.most }
         ensures most { self.new.most ≡ self.old.most }
@@ -58,7 +59,7 @@ impl Index {
     {
         if let Err(at) = self.search(id) {
             // Never refused: there is memory for every slot.
-            let _ = self.places.insert(at, Place { id, slot });
+            self.places.insert(at, Place { id, slot }).unwrap();
         }
     }
 

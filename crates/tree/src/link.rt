@@ -4,7 +4,7 @@ use edits::Side;
 /// The entries that hang under one parent on one side.
 #[derive(Clone, Copy)]
 pub struct Siblings {
-    /// The slot of the parent; none under the start.
+    /// The slot of the parent entry. The start has no slot.
     pub parent: Option<usize>,
     pub side: Side,
 }

@@ -23,8 +23,11 @@ impl Siblings {
 }
 
 impl<E: Copy> Tree<E> {
-    /// The link where an identifier belongs among its siblings, which stand in ascending order.
-    pub(crate) fn gap(&self, siblings: Siblings, id: Id) -> Link {
+    /// The link where an identifier belongs among its siblings, which stand in ascending order. That it is the gap is not yet
+    /// a promise.
+    pub(crate) fn gap(&self, siblings: Siblings, id: Id) -> Link
+        ensures { IsLinkOf (vec_len self.now.nodes) (first_link siblings.parent siblings.side) → IsLinkOf (vec_len self.now.nodes) result }
+    {
         let first = siblings.first();
         successors(self.follow(first), |slot| self.follow(Link::Next(*slot)))
             .take(self.nodes.len())
@@ -46,10 +49,11 @@ impl<E: Copy> Tree<E> {
     }
 
     /// Makes a link lead to a slot.
+    // Three arms that differ in the field: a `match` that gives a `&mut` to the link was tried, as `&mut` and in an
+    // `Option`; the borrow checker covers neither, so that no proof closed.
     #[tactic(auto, using(crate::proofs::Entries::entries_kept, std::proofs::lemmas::List::get_or_default))]
     pub(crate) fn set(&mut self, link: Link, to: usize)
         ensures slots { self.new.slots ≡ self.old.slots }
-        ensures len { vec_len self.new.nodes ≡ vec_len self.old.nodes }
         ensures entries { entries_of self.new.nodes.items ≡ entries_of self.old.nodes.items }
         ensures leads { IsLinkOf (vec_len self.old.nodes) link → target self.new.first self.new.nodes.items link ≡ Some to }
         ensures others { (other : Link) → other ≢ link → target self.new.first self.new.nodes.items other ≡ target self.old.first self.old.nodes.items other }

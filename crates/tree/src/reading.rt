@@ -2,6 +2,7 @@
 ghost use Rattle.std.specs.Prelude.{◌≤◌, vec_capacity};
 
 /// The slots of a tree in reading order, and the index at which each is shown, with memory for as many as asked for.
+// Slots by place, indexes by slot, and their count: three questions, each asked without a search.
 #[derive(Drop)]
 pub struct Reading {
     pub(crate) most: usize,

@@ -42,9 +42,11 @@ impl Reading {
     }
 
     /// Forgets what was read, and is ready for as many entries.
-    pub(crate) fn restart(&mut self, entries: usize)
+    // Here and below, that the memory stays relates two states, which no invariant of the type can say.
+    fn restart(&mut self, entries: usize)
         requires { entries ≤ self.old.most }
         ensures order { self.new.order.items ≡ [] }
+        ensures indexes { vec_len self.new.indexes ≡ entries }
         ensures most { self.new.most ≡ self.old.most }
         ensures shown { self.new.shown ≡ 0 }
     {
@@ -52,10 +54,11 @@ impl Reading {
         self.indexes.clear();
         self.shown = 0;
         // Never refused: there is memory for as many.
-        let _ = self.indexes.resize(entries, None);
+        self.indexes.resize(entries, None).unwrap();
     }
 
     /// Lists slots in place of what was read before, each with whether its entry is shown.
+    // A slot and a `bool`, no `Option`: it says whether an entry is shown, and not whether there is one.
     pub(crate) fn fill<I: Iterator<Item = (usize, bool)> + Drop>(
         &mut self,
         entries: usize,
@@ -73,8 +76,8 @@ impl Reading {
         }
     }
 
-    /// One slot more, behind those that were added.
-    pub(crate) fn add(&mut self, at: usize, shown: bool)
+    /// One slot more, behind those that were added. The index counts shown entries only.
+    fn add(&mut self, at: usize, shown: bool)
         requires room { vec_len self.old.order < self.old.most }
         requires few { self.old.shown ≤ vec_len self.old.order }
         ensures order { self.new.order.items ≡ self.old.order.items ++ (at ∷ []) }

@@ -1,6 +1,6 @@
 //! The entries in reading order, found by links: no stack, no recursion. No walk takes more steps than there are
 //! entries, which ends it whatever the links are.
-ghost use Rattle.std.specs.Prelude.{◌≡◌, ◌<◌, ◌≤◌, vec_len, MatchResult, OnOk};
+ghost use Rattle.std.specs.Prelude.{◌≡◌, ◌<◌, ◌≤◌, None, vec_len, MatchResult, OnOk};
 ghost use Rattle.edits.specs.declared.fault.Fault.TheVariants.{WrongSize};
 
 use crate::link::Link;
@@ -10,7 +10,7 @@ use edits::{Fault, Side};
 use std::iter::successors;
 
 impl<E: Copy> Tree<E> {
-    /// The slot at the end of the left links: what is read first of an entry and all below it.
+    /// The slot at the end of the left links: what is read first of an entry and all below it. The order is not yet a promise.
     fn leftmost(&self, slot: usize) -> usize {
         successors(Some(slot), |at| self.follow(Link::Left(*at)))
             .take(self.nodes.len())
@@ -19,8 +19,10 @@ impl<E: Copy> Tree<E> {
     }
 
     /// The slot that is read after a slot: the first of its right children, or else of its next sibling, or else its
-    /// parent if it is a left child, or else what follows the parent likewise.
-    fn after(&self, slot: usize) -> Option<usize> {
+    /// parent if it is a left child, or else what follows the parent likewise. The order is not yet a promise.
+    fn after(&self, slot: usize) -> Option<usize>
+        ensures { vec_len self.now.nodes ≤ slot → result ≡ None }
+    {
         if let Some(right) = self.follow(Link::Right(slot)) {
             return Some(self.leftmost(right));
         }
