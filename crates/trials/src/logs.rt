@@ -56,6 +56,7 @@ impl Log {
         self.head(b"RU", id, known)?;
         self.id(parent)?;
         self.bytes.extend_from_slice(&[1, len])?;
+        // The same bytes so many times: there is nothing to go over.
         for _ in 0..len {
             self.bytes.extend_from_slice(&[0, 0, 0, b'a'])?;
         }
@@ -64,6 +65,7 @@ impl Log {
 
     /// The first edits of editor 1, `runs` times 64 of them: each the right child of the one before it.
     fn chain(&mut self, runs: u8) -> Result<(), AllocError> {
+        // Runs are numbered, and their numbers are what is written.
         for i in 0..runs {
             let before = u16::from(i) * 64;
             let first = one(before + 1);
