@@ -6,7 +6,7 @@ ghost use Rattle.std.specs.Float.{float_is_finite, binary32};
 
 use std::num::f32_from_bits_with_nan;
 
-// Functions of their own: that a character is a scalar value and that a float has 32 bits is known of an argument, and
+// Functions of their own (tried without them): that a character is a scalar value and that a float has 32 bits is known of an argument, and
 // not of a field behind a reference.
 
 /// The character's number.

@@ -43,6 +43,7 @@ impl Reader<'_> {
         let id = self.name()?;
         let clock_place = self.at;
         let clock = self.clock()?;
+        // Not by `Stamp::new`, which would test the whole clock again that was tested as it was read.
         if own_kept(id, &clock) {
             Ok(Stamp { id, clock })
         } else {

@@ -55,7 +55,7 @@ struct Lines<'a, K: Kind> {
 }
 
 impl<K: Kind> Lines<'_, K> {
-    /// The index at which an entry is shown; none for a tombstone and for what is no entry.
+    /// The index at which an entry is shown; none for a tombstone and for what is no entry. What is printed asks it, too.
     fn lookup(&self, id: Id) -> Option<usize>
         ensures value { result ≡ index_of self.now.replica.now self.now.reading.now id }
         ensures shown { IfSome result (λ i. (s : ℕ) × (names id (entry_at self.now.replica.now.tree.nodes.items s) ≡ true) × (slice_index_or self.now.reading.now.indexes.items s None ≡ Some i)) }

@@ -48,6 +48,7 @@ impl<E: Copy> Replica<E> {
     }
 
     /// Lists the entries in reading order. A reading with too little memory is the caller's fault, and stays as it is.
+    // That the memory stays relates two states, which no invariant of the type can say.
     pub fn read(&self, reading: &mut Reading) -> Result<(), Fault>
         ensures most { reading.new.most ≡ reading.old.most }
         ensures answer { MatchResult result (λ _. entries_in self.now ≤ reading.old.most) (λ f. (f ≡ WrongSize) × (reading.old.most < entries_in self.now) × (reading.new ≡ reading.old)) }

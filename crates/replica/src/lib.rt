@@ -4,9 +4,7 @@
 mod asking;
 mod replica;
 mod roster;
-mod rosters;
 mod shelf;
-mod shelving;
 mod taking;
 mod verdict;
 

@@ -1,7 +1,11 @@
-//! The edits that wait for others, as data.
-ghost use Rattle.std.specs.Prelude.{◌≤◌, vec_len, vec_capacity};
+//! The edits that wait for others, put on the shelf and taken off it.
+ghost use Rattle.std.specs.Prelude.{◌≡◌, ◌+◌, ◌<◌, [], ◌∷◌, ◌++◌, IfSome, IfNone, IsSomeAnd, Some, None, vec_len, MatchResult, OnSome, nat_le, slice_get, remove, ◌≤◌, vec_capacity};
+ghost use Rattle.edits.specs.declared.fault.Fault.TheVariants.{NoMemory};
+ghost use Rattle.replica.specs.Shelves.{waits, insertions, first_ready, lowest_from};
 
-use edits::Edit;
+use crate::roster::Roster;
+use edits::{Edit, Fault, Id};
+use std::alloc::Global;
 
 /// The most waiting edits that a replica can be made for.
 pub(crate) const MOST_WAITING: usize = 64;
@@ -15,4 +19,74 @@ pub struct Shelf<E: Copy> {
     pub(crate) edits: Vec<Edit<E>>,
     ghost reserved: { room ≤ vec_capacity edits },
     ghost few: { vec_len edits ≤ room },
+}
+
+impl<E: Copy> Shelf<E> {
+    /// An empty shelf with memory for as many edits as asked for.
+    pub(crate) fn new(heap: Global, room: usize) -> Result<Shelf<E>, Fault>
+        ensures { MatchResult result (λ x. (x.room ≡ room) × (x.edits.items ≡ [])) (λ f. f ≡ NoMemory) }
+    {
+        Ok(Shelf {
+            room,
+            edits: Vec::with_capacity(heap, room)?,
+        })
+    }
+
+    /// Whether an edit with the identifier waits.
+    pub(crate) fn holds(&self, id: Id) -> bool
+        ensures { result ≡ waits id self.now.edits.items }
+    {
+        self.edits.iter().any(|edit| edit.stamp().id == id)
+    }
+
+    /// How many of the edits are insertions.
+    pub(crate) fn insertions(&self) -> usize
+        ensures { result ≡ insertions self.now.edits.items }
+    {
+        self.edits.iter().filter(|edit| edit.is_insertion()).count()
+    }
+
+    /// Whether no further edit can wait.
+    pub(crate) fn is_full(&self) -> bool
+        ensures { result ≡ nat_le self.now.room (vec_len self.now.edits) }
+    {
+        self.edits.len() >= self.room
+    }
+
+    /// Puts an edit behind the others.
+    pub(crate) fn put(&mut self, edit: Edit<E>)
+        requires { vec_len self.old.edits < self.old.room }
+        ensures items { self.new.edits.items ≡ self.old.edits.items ++ (edit ∷ []) }
+        ensures room { self.new.room ≡ self.old.room }
+    {
+        self.edits.push_reserved(edit);
+    }
+
+    /// The place of the first edit that is ready.
+    fn first_ready(&self, roster: &Roster) -> Option<usize>
+        ensures { result ≡ first_ready roster.now.pairs.items self.now.edits.items }
+    {
+        self.edits
+            .iter()
+            .position(|edit| roster.includes(&edit.stamp().clock))
+    }
+
+    /// Takes the first edit that is ready off the shelf.
+    pub(crate) fn take_ready(&mut self, roster: &Roster) -> Option<Edit<E>>
+        ensures none { IfNone result ((first_ready roster.now.pairs.items self.old.edits.items ≡ None) × (self.new ≡ self.old)) }
+        ensures taken { IfSome result (λ e. IsSomeAnd (first_ready roster.now.pairs.items self.old.edits.items) (λ k. (slice_get self.old.edits.items k ≡ Some e) × (self.new.edits.items ≡ remove self.old.edits.items k))) }
+        ensures insertions { IfSome result (λ e. insertions (e ∷ self.new.edits.items) ≡ insertions self.old.edits.items) }
+        ensures falls { OnSome result (vec_len self.new.edits + 1 ≡ vec_len self.old.edits) }
+        ensures room { self.new.room ≡ self.old.room }
+    {
+        let place = self.first_ready(roster)?;
+        Some(self.edits.remove(place))
+    }
+
+    /// The lowest identifier that waits.
+    pub(crate) fn lowest(&self) -> Option<Id>
+        ensures { result ≡ lowest_from None self.now.edits.items }
+    {
+        self.edits.iter().map(|edit| edit.stamp().id).min()
+    }
 }

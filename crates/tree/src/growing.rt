@@ -28,7 +28,7 @@ impl<E: Copy> Tree<E> {
     }
 
     /// Hangs a new entry under its parent on its side. Where the parent is no entry, nothing changes.
-    // That the number of slots stays relates two states, which no invariant of the type can say.
+    // That the slots stay as many is said here, of `delete` and of `set`: it relates two states, which no type can do.
     #[tactic(auto, using(crate::proofs::Entries::entries_gain))]
     pub fn insert(&mut self, id: Id, parent: Parent, side: Side, element: E) -> Result<bool, Fault>
         ensures slots { self.new.slots ≡ self.old.slots }

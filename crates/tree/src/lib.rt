@@ -8,7 +8,6 @@ mod link;
 mod links;
 mod node;
 mod reading;
-mod readings;
 mod tree;
 mod walk;
 

@@ -38,6 +38,7 @@ impl<E: Copy> Tree<E> {
     }
 
     /// Lists the entries in reading order. A reading with too little memory is the caller's fault, and stays as it is.
+    // That the memory stays relates two states, which no invariant of the type can say.
     pub fn read(&self, reading: &mut Reading) -> Result<(), Fault>
         ensures answer { MatchResult result (λ _. vec_len self.now.nodes ≤ reading.old.most) (λ f. (f ≡ WrongSize) × (reading.old.most < vec_len self.now.nodes) × (reading.new ≡ reading.old)) }
         ensures most { reading.new.most ≡ reading.old.most }

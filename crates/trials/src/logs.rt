@@ -117,6 +117,7 @@ mod tests {
         Ok(())
     }
 
+    // Beside `prints`: a table of a thousand lines is not written out.
     fn begins(rt: &(impl Abort + AllocGlobal), log: &Log, line: &str) -> Result<(), Fail> {
         let text = log.printed(rt.alloc())?;
         assert!(rt; text.starts_with(line));
