@@ -168,6 +168,7 @@ impl Layer {
     }
 }
 
+// `Display` says the same; the name is there for callers.
 impl Spot {
     /// What is printed for the spot: a number, or an identifier as `2.1`.
     pub fn text(self, heap: Global) -> Result<String, AllocError>

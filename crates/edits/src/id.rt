@@ -13,7 +13,7 @@ pub struct Id {
     pub number: u16,
 }
 
-// The comparisons and the text have names besides, which the definitions of the rules share.
+// The derived comparisons and `Display` say the same; the names are there for callers.
 impl Id {
     /// Whether it stands before the other: by editor, then by number.
     pub fn precedes(self, other: Id) -> bool

@@ -6,8 +6,8 @@ ghost use Rattle.std.specs.Float.{float_is_finite, binary32};
 
 use std::num::f32_from_bits_with_nan;
 
-// Functions of their own (tried without them): that a character is a scalar value and that a float has 32 bits is known of an argument, and
-// not of a field behind a reference.
+// Functions of their own: without them it is not proved that a character is a scalar value and that a float has 32 bits.
+// That is known of an argument, and not of a field behind a reference.
 
 /// The character's number.
 pub(crate) fn number(c: char) -> u32

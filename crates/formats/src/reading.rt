@@ -101,6 +101,7 @@ impl<'a> Reader<'a> {
 }
 
 /// Reads the record at the offset `at`, which then stands behind it. Where there is none, `at` stays.
+// Spelled out, and not by `Reads`, for who reads this contract alone.
 pub fn read_record<'a, K: Kind>(
     format: Format,
     input: &'a [u8],

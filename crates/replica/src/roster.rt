@@ -13,6 +13,7 @@ pub(crate) const MOST_EDITORS: usize = 16;
 
 /// The editors in ascending order, each with the number of its edits that were applied. An editor whose edits all wait
 /// is listed with 0.
+// No list with a limit that others share: only a line of invariant is alike.
 // A sorted `Vec` and no map: `counts` hands it out as a slice, and memory for all is asked for at the making.
 #[derive(Drop)]
 pub struct Roster {

@@ -16,6 +16,7 @@ pub struct Place {
 }
 
 /// The places of identifiers in ascending order, with memory for as many as asked for.
+// No list with a limit that others share: only a line of invariant is alike.
 // No map: a `BTreeMap` asks for memory at insertions, and a `HashMap` may look at every entry for one identifier.
 #[derive(Drop)]
 pub struct Index {

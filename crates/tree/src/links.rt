@@ -23,8 +23,8 @@ impl Siblings {
 }
 
 impl<E: Copy> Tree<E> {
-    /// The link where an identifier belongs among its siblings, which stand in ascending order. That it is the gap is not yet
-    /// a promise.
+    /// The link where an identifier belongs among its siblings, which stand in ascending order. That it is the gap is not
+    /// yet a promise.
     pub(crate) fn gap(&self, siblings: Siblings, id: Id) -> Link
         ensures { IsLinkOf (vec_len self.now.nodes) (first_link siblings.parent siblings.side) → IsLinkOf (vec_len self.now.nodes) result }
     {

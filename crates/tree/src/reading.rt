@@ -7,7 +7,8 @@ use edits::Fault;
 use std::alloc::Global;
 
 /// The slots of a tree in reading order, and the index at which each is shown, with memory for as many as asked for.
-// Slots by place, indexes by slot, and their count: three questions, each asked without a search.
+// Slots by place, indexes by slot, and their count: three questions, each asked without a search. No list with a limit
+// that others share: only a line of invariant is alike.
 #[derive(Drop)]
 pub struct Reading {
     pub(crate) most: usize,
@@ -89,6 +90,7 @@ impl Reading {
     }
 
     /// One slot more, behind those that were added. The index counts shown entries only.
+    // A slot and a `bool`, as in `fill`.
     fn add(&mut self, at: usize, shown: bool)
         requires room { vec_len self.old.order < self.old.most }
         requires few { self.old.shown ≤ vec_len self.old.order }

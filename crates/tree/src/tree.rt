@@ -8,6 +8,7 @@ use crate::node::Node;
 pub const MOST_SLOTS: usize = 65_536;
 
 /// The entries of a document and how they hang under each other. Memory for all slots is asked for when it is made.
+// No list with a limit that others share: only a line of invariant is alike.
 #[derive(Drop)]
 pub struct Tree<E: Copy> {
     pub(crate) slots: usize,

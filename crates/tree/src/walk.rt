@@ -10,7 +10,8 @@ use edits::{Fault, Side};
 use std::iter::successors;
 
 impl<E: Copy> Tree<E> {
-    /// The slot at the end of the left links: what is read first of an entry and all below it. The order is not yet a promise.
+    /// The slot at the end of the left links: what is read first of an entry and all below it. The order is not yet a
+    /// promise.
     fn leftmost(&self, slot: usize) -> usize {
         successors(Some(slot), |at| self.follow(Link::Left(*at)))
             .take(self.nodes.len())
