@@ -1,5 +1,5 @@
 //! Merges made, settled and opened again.
-ghost use Rattle.std.specs.Prelude.{◌≡◌, ℕ, true, ◌&&◌, [], if◌then◌else◌, Some, None, MatchResult};
+ghost use Rattle.std.specs.Prelude.{◌≡◌, ℕ, true, ◌&&◌, [], if◌then◌else◌, Some, None, MatchResult, vec_len};
 ghost use Rattle.edits.specs.declared.fault.Fault.TheVariants.{NoMemory, OutsideLimits, StillWaiting};
 ghost use Rattle.tree.specs.Entries.{slots_allowed};
 ghost use Rattle.replica.specs.Shelves.{room_allowed, lowest_from};
@@ -28,7 +28,7 @@ impl<K: Kind> Merge<K, Gathering> {
 
     /// Settles the merge, unless edits still wait.
     pub fn settle(self) -> Result<Merge<K, Settled>, Unsettled<K>>
-        ensures { MatchResult result (λ s. (s.replica ≡ self.replica) × (lowest_from None (shelf_of self.replica) ≡ None)) (λ e. (e.merge ≡ self) × (lowest_from None (shelf_of self.replica) ≡ Some e.lowest)) }
+        ensures { MatchResult result (λ s. (s.replica ≡ self.replica) × (vec_len s.reading.indexes ≡ entries_in self.replica) × (lowest_from None (shelf_of self.replica) ≡ None)) (λ e. (e.merge ≡ self) × (lowest_from None (shelf_of self.replica) ≡ Some e.lowest)) }
     {
         if let Some(lowest) = self.replica.lowest_waiting() {
             return Err(Unsettled {

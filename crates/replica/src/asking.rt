@@ -1,5 +1,5 @@
 //! What a replica holds.
-ghost use Rattle.std.specs.Prelude.{◌≡◌, ◌<◌, ◌≤◌, true, IfSome, None, MatchResult};
+ghost use Rattle.std.specs.Prelude.{◌≡◌, ◌<◌, ◌≤◌, true, IfSome, None, MatchResult, OnOk, vec_len};
 ghost use Rattle.edits.specs.declared.fault.Fault.TheVariants.{WrongSize};
 ghost use Rattle.tree.specs.Entries.{entry_at, names};
 ghost use Rattle.tree.specs.Lookups.{slot_of};
@@ -51,6 +51,7 @@ impl<E: Copy> Replica<E> {
     // That the memory stays relates two states, which no invariant of the type can say.
     pub fn read(&self, reading: &mut Reading) -> Result<(), Fault>
         ensures most { reading.new.most ≡ reading.old.most }
+        ensures indexes { OnOk result (vec_len reading.new.indexes ≡ entries_in self.now) }
         ensures answer { MatchResult result (λ _. entries_in self.now ≤ reading.old.most) (λ f. (f ≡ WrongSize) × (reading.old.most < entries_in self.now) × (reading.new ≡ reading.old)) }
     {
         self.tree.read(reading)

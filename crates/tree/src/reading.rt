@@ -82,6 +82,7 @@ impl Reading {
         requires few { UpTo (I.remaining slots) entries }
         ensures most { self.new.most ≡ self.old.most }
         ensures len { vec_len self.new.order ≤ entries }
+        ensures indexes { vec_len self.new.indexes ≡ entries }
     {
         self.restart(entries);
         for (slot, shown) in slots {
@@ -99,6 +100,7 @@ impl Reading {
         ensures shown { self.new.shown ≡ self.old.shown + (if shown then 1 else 0) }
         ensures len { vec_len self.new.order ≡ vec_len self.old.order + 1 }
         ensures few { self.new.shown ≤ vec_len self.new.order }
+        ensures indexes { vec_len self.new.indexes ≡ vec_len self.old.indexes }
     {
         self.order.push_reserved(at);
         if shown {

@@ -44,6 +44,7 @@ impl<E: Copy> Tree<E> {
         ensures answer { MatchResult result (λ _. vec_len self.now.nodes ≤ reading.old.most) (λ f. (f ≡ WrongSize) × (reading.old.most < vec_len self.now.nodes) × (reading.new ≡ reading.old)) }
         ensures most { reading.new.most ≡ reading.old.most }
         ensures len { OnOk result (vec_len reading.new.order ≤ vec_len self.now.nodes) }
+        ensures indexes { OnOk result (vec_len reading.new.indexes ≡ vec_len self.now.nodes) }
     {
         let entries = self.nodes.len();
         if entries > reading.most {
