@@ -33,7 +33,7 @@ impl Record<'_> {
         if i >= self.len() {
             return Err(Fault::OutsideLimits);
         }
-        match *self {
+        match self {
             Record::Insertion {
                 id,
                 clock,
@@ -41,8 +41,9 @@ impl Record<'_> {
                 side,
                 element,
                 ..
-            } => insertion::<K>(id, clock, parent, side, element),
-            Record::Deletion { id, clock, target } => deletion::<K>(id, clock, target),
+            } => insertion::<K>(*id, *clock, *parent, *side, element),
+            Record::Deletion { id, clock, target } => deletion::<K>(*id, *clock, *target),
+            // By references: a later edit has a clock of its own, and the first one's is not copied for it.
             Record::Run {
                 id,
                 clock,
@@ -53,8 +54,8 @@ impl Record<'_> {
             } => {
                 let element = element_of::<K>(elements, i)?;
                 match i.checked_sub(1) {
-                    None => insertion::<K>(id, clock, parent, side, element),
-                    Some(before) => later::<K>(id, &clock, before, element),
+                    None => insertion::<K>(*id, *clock, *parent, *side, element),
+                    Some(before) => later::<K>(*id, clock, before, element),
                 }
             }
         }
@@ -112,8 +113,8 @@ fn id_further(id: Id, n: usize) -> Result<Id, Fault>
 fn element_of<K: Kind>(elements: &[u8], i: usize) -> Result<&[u8], Fault>
     ensures { MatchResult result (λ b. b.now ≡ take K.Kind.WIDTH (drop (i * K.Kind.WIDTH) elements.now)) (λ f. (f ≡ OutsideLimits) × (length elements.now < i * K.Kind.WIDTH + K.Kind.WIDTH)) }
 {
-    elements
-        .chunks_exact(K::WIDTH)
-        .nth(i)
-        .ok_or(Fault::OutsideLimits)
+    // By the offset: `chunks_exact(..).nth(i)` would walk over the elements before it.
+    let start = i.checked_mul(K::WIDTH).ok_or(Fault::OutsideLimits)?;
+    let rest = elements.get(start..).ok_or(Fault::OutsideLimits)?;
+    rest.get(..K::WIDTH).ok_or(Fault::OutsideLimits)
 }

@@ -5,7 +5,7 @@ ghost use Rattle.formats.specs.Fields.{id_at, name_at, stamp_at, side_at, parent
 ghost use Rattle.formats.specs.Readers.{MovesTo};
 
 use crate::reader::Reader;
-use edits::{Fault, Id, Parent, Placement, Removal, Side, Stamp, own_kept};
+use edits::{Fault, Id, Parent, Placement, Removal, Side, Stamp, own_kept, parent_kept};
 
 impl Reader<'_> {
     /// An editor and a number, whatever they are.
@@ -73,7 +73,16 @@ impl Reader<'_> {
         let parent_place = self.at;
         let parent = parent_of(self.id()?);
         let side = self.side()?;
-        Placement::new(stamp, parent, side).map_err(|_| Fault::Reference(parent_place))
+        // Not by `Placement::new`, whose fault would have to be replaced: its spot is known here alone.
+        if parent_kept(&stamp.clock, parent, side) {
+            Ok(Placement {
+                stamp,
+                parent,
+                side,
+            })
+        } else {
+            Err(Fault::Reference(parent_place))
+        }
     }
 
     /// Head and target of a deletion.
@@ -83,7 +92,12 @@ impl Reader<'_> {
         let stamp = self.stamp()?;
         let target_place = self.at;
         let target = self.id()?;
-        Removal::new(stamp, target).map_err(|_| Fault::Reference(target_place))
+        // Not by `Removal::new`, for the same reason.
+        if stamp.clock.covers(target) {
+            Ok(Removal { stamp, target })
+        } else {
+            Err(Fault::Reference(target_place))
+        }
     }
 }
 

@@ -38,11 +38,17 @@ impl<'a> Reader<'a> {
     }
 
     /// The next byte.
+    // Not by `bytes(1)`: clocks are read byte by byte, and a slice made and cut for each costs a third more.
     pub(crate) fn byte(&mut self) -> Result<u8, Fault>
         ensures value { result ≡ byte_at self.old.input.now self.old.at }
         ensures moved { OnOk result (MovesTo self.old self.new (self.old.at + 1)) }
     {
-        Ok(self.bytes(1)?[0])
+        let byte = *self
+            .input
+            .get(self.at)
+            .ok_or(Fault::Extent(self.input.len()))?;
+        self.at += 1;
+        Ok(byte)
     }
 
     /// A number of two bytes, the higher first.

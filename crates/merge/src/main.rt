@@ -2,7 +2,7 @@
 #![tactic(auto)]
 
 use merger::{LONGEST_INPUT, merged};
-use std::io::Read;
+use std::io::{Read, Write};
 use std::process::ExitCode;
 
 fn main(rt: HostRuntime) -> anyhow::Result<ExitCode> {
@@ -14,7 +14,8 @@ fn main(rt: HostRuntime) -> anyhow::Result<ExitCode> {
         .read_to_end(&mut input)?;
     match merged(heap, &input) {
         Ok(table) => {
-            rt.print(table)?;
+            // In one write: `print` hands a text over in pieces, between which a reader may end or another writer come.
+            rt.stdout().write_all(table.as_bytes())?;
             Ok(ExitCode::SUCCESS)
         }
         Err(fault) => {

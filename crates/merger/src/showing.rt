@@ -1,8 +1,11 @@
 //! The table of a settled merge, as text.
-ghost use Rattle.std.specs.Prelude.{◌≡◌, ℕ, true, IfSome, Some, None, MatchResult, string_bytes, slice_index_or};
+ghost use Rattle.std.specs.Prelude.{◌≡◌, ℕ, ◌*◌, ◌≤◌, true, IfSome, Some, None, MatchResult};
+ghost use Rattle.std.specs.Prelude.{length, slice_index_or, string_bytes};
+ghost use Rattle.std.specs.Str.{IsAscii};
 ghost use Rattle.digits.specs.Hex.{hex_text};
 ghost use Rattle.edits.specs.declared.fault.Fault.TheVariants.{NoMemory};
 ghost use Rattle.tree.specs.Entries.{entry_at, names};
+ghost use Rattle.merger.specs.declared.showing.TheConstants.{WIDEST};
 ghost use Rattle.merger.specs.Lines.{index_of, entry_line, entry_lines, pairs_text, table_text};
 
 use crate::merge::{Merge, State};
@@ -94,24 +97,39 @@ impl<K: Kind> fmt::Display for Line<K> {
         let mut buffer = [0; WIDEST];
         let bytes = &mut buffer[..K::WIDTH];
         self.0.element.pack(bytes);
-        writeln!(f, "{} {}", self.0.id, Digits(bytes))
+        writeln!(f, "{} {}", self.0.id, Digits { bytes })
     }
 }
 
-/// Bytes, two digits for each.
+/// At most `WIDEST` bytes, two digits for each.
 #[derive(Clone, Copy)]
-struct Digits<'a>(&'a [u8]);
+struct Digits<'a> {
+    bytes: &'a [u8],
+    ghost short: { length bytes.now ≤ WIDEST },
+}
 
 impl fmt::Display for Digits<'_> {
-    ghost output = { λ x. Some (hex_text x.0.now) };
+    ghost output = { λ x. Some (hex_text x.bytes.now) };
 
+    // All digits in one write, since a write costs more than many digits.
     fn fmt<W: fmt::Write>(&self, f: &mut fmt::Formatter<W>) -> fmt::Result {
-        for byte in self.0 {
-            let [high, low] = pair(*byte);
-            f.write_char(char::from(high))?;
-            f.write_char(char::from(low))?;
-        }
-        Ok(())
+        let mut buffer = [0; 2 * WIDEST];
+        let digits = &mut buffer[..2 * self.bytes.len()];
+        spell(self.bytes, digits);
+        f.write_str(str::from_utf8(digits).unwrap())
+    }
+}
+
+/// Writes two digits for each byte.
+fn spell(bytes: &[u8], out: &mut [u8])
+    requires { length out.old ≡ 2 * length bytes.now }
+    ensures digits { out.new ≡ hex_text bytes.now }
+    ensures ascii { IsAscii out.new }
+{
+    for (at, byte) in bytes.iter().enumerate() {
+        let [high, low] = pair(*byte);
+        out[2 * at] = high;
+        out[2 * at + 1] = low;
     }
 }
 

@@ -18,7 +18,7 @@ use Rattle.order.proofs.Growing.{Grew, Effect, of_grew, grew_keep, effect, effec
 use Rattle.order.proofs.Histories.{tree_snoc, in_ids, ids_old, distinct_ids_snoc}
 use Rattle.order.proofs.Reordering.{rest_of, rest_new, rest_distinct, tree_from_part}
 
-not_or : (a b : Bool) → not (a || b) ≡ (not a && not b)
+pub not_or : (a b : Bool) → not (a || b) ≡ (not a && not b)
 not_or true b = refl
 not_or false b = refl
 

@@ -1,5 +1,5 @@
 -- Members of lists, filters, lists without repetition, order of places, and functions replaced at a place.
-use Rattle.std.proofs.Common.{◌≡◌, ℕ, zero, suc, ◌<◌, Bool, true, false, cond, ◌||◌, eqb, ◌⊎◌, List, [], ◌∷◌, ◌++◌, map, length, get_or, sym, refl, ap, ◌∙◌, inl, inr, arith, eq-eqb, ne_eqb, eqb-true}
+use Rattle.std.proofs.Common.{◌≡◌, ℕ, zero, suc, ◌<◌, Bool, true, false, cond, ◌&&◌, ◌||◌, eqb, ◌⊎◌, List, [], ◌∷◌, ◌++◌, map, length, get_or, sym, refl, ap, ◌∙◌, inl, inr, arith, eq-eqb, ne_eqb, eqb-true}
 use Rattle.std.proofs.lemmas.Bool.{false≢true, both_ways, cond-false, cond-true, cond_both, eqb-false, false_from_ne_true, or_cases, or_left, or_right}
 use Rattle.std.specs.Cmp.{both_ways as same_test}
 use Rattle.std.proofs.Math.Bool.{or_assoc}
@@ -90,6 +90,16 @@ module _ {A : Type 0} where
   keep_all p [] f = refl
   keep_all p (x ∷ xs) f = rw (f x (here refl)) (ap (λ (zs : List A). x ∷ zs) (keep_all p xs (λ y m. f y (there m))))
 
+  -- a filter on what another has left
+  pub keep_keep : (p q : A → Bool) (xs : List A) → keep p (keep q xs) ≡ keep (λ (x : A). q x && p x) xs
+  keep_keep p q [] = refl
+  keep_keep p q (x ∷ xs) = go (q x) (keep_keep p q xs)
+    where
+      go : (b : Bool) → keep p (keep q xs) ≡ keep (λ (y : A). q y && p y) xs
+          → keep p (cond b (x ∷ keep q xs) (keep q xs)) ≡ cond (b && p x) (x ∷ keep (λ (y : A). q y && p y) xs) (keep (λ (y : A). q y && p y) xs)
+      go true e = λ i. cond (p x) (x ∷ e i) (e i)
+      go false e = e
+
   -- some element passes
   pub any_true : (p : A → Bool) (xs : List A) → any p xs ≡ true → (x : A) × (x ∈ xs) × (p x ≡ true)
   any_true p [] t = absurd (false≢true t)
@@ -135,12 +145,15 @@ module _ {A : Type 0} where
   distinct_across (z ∷ xs) ys d {x} (here e) k = d.0 (in_right xs ys (rw⁻¹ e k))
   distinct_across (z ∷ xs) ys d {x} (there m) k = distinct_across xs ys d.1 m k
 
-  pub distinct_snoc : (xs : List A) (y : A) → Distinct xs → y ∉ xs → Distinct (xs ++ (y ∷ []))
-  distinct_snoc [] y d new = ((λ m. elim m [ ]), tt)
-  distinct_snoc (x ∷ xs) y d new = (
-    (λ m. elim (in_snoc xs y m) [ inl k ↦ d.0 k | inr e ↦ new (here (sym e)) ]),
-    distinct_snoc xs y d.1 (λ m. new (there m)),
+  pub distinct_append : (xs ys : List A) → Distinct xs → Distinct ys → ((x : A) → x ∈ xs → x ∉ ys) → Distinct (xs ++ ys)
+  distinct_append [] ys d e f = e
+  distinct_append (x ∷ xs) ys d e f = (
+    (λ m. elim (in_split xs ys m) [ inl k ↦ d.0 k | inr k ↦ f x (here refl) k ]),
+    distinct_append xs ys d.1 e (λ y m. f y (there m)),
   )
+
+  pub distinct_snoc : (xs : List A) (y : A) → Distinct xs → y ∉ xs → Distinct (xs ++ (y ∷ []))
+  distinct_snoc xs y d new = distinct_append xs (y ∷ []) d ((λ m. elim m [ ]), tt) (λ x m k. elim k [ here e ↦ new (rw⁻¹ e m) | there n ↦ elim n [ ] ])
 
   -- order of places
   pub before_left : (xs : List A) (x y : A) → Before xs x y → x ∈ xs

@@ -249,6 +249,11 @@ module _ {E : Type 0} where
     adds_hang p t e T (node x l r n) = adds_adopt (same x.id p) t e x p T refl
         (adds_hang p t e (x.id ≡ p) l) (adds_hang p t e (x.id ≡ p) r) (adds_hang p t e T n)
 
+    pub ids_was : (i : Id) (c : Change E) (f : Forest E) (a : Id) → a ∈ ids (change before i c f) → (a ∈ ids f) ⊎ (a ≡ i)
+    ids_was i (insertion parent.Start t x) f a m = of_grew (grew_map entry_id (join_grew before (fresh i x) f)) a m
+    ids_was i (insertion (parent.Entry p) t x) f a m = ⊎_map (λ z. z) (λ z. z.0) ((adds_hang p t (fresh i x) ⊥ f).inside a m)
+    ids_was i (deletion t) f a m = inl ((bury_same t f).1.inside a m)
+
     -- what is new below b is the leaf, whose parent is b or below it
     pub under_was : (i : Id) (c : Change E) (s : Side) (b a : Id) (f : Forest E) → Under s b (change before i c f) a
         → (Under s b f a) ⊎ ((a ≡ i) × (p : Id) × (t : Side) × (x : E) × (c ≡ insertion (parent.Entry p) t x) × ((p ≡ b) ⊎ Under s b f p))

@@ -1,10 +1,11 @@
 //! The edits that wait for others, put on the shelf and taken off it.
 ghost use Rattle.std.specs.Prelude.{◌≡◌, ◌+◌, ◌<◌, [], ◌∷◌, ◌++◌, IfSome, IfNone, IsSomeAnd, Some, None, vec_len, MatchResult, OnSome, nat_le, slice_get, remove, ◌≤◌, vec_capacity};
 ghost use Rattle.edits.specs.declared.fault.Fault.TheVariants.{NoMemory};
+ghost use Rattle.edits.specs.Edits.{stamp_of};
 ghost use Rattle.replica.specs.Shelves.{waits, insertions, first_ready, lowest_from};
 
 use crate::roster::Roster;
-use edits::{Edit, Fault, Id};
+use edits::{Clock, Edit, Fault, Id};
 use std::alloc::Global;
 
 /// The most waiting edits that a replica can be made for.
@@ -68,7 +69,7 @@ impl<E: Copy> Shelf<E> {
     {
         self.edits
             .iter()
-            .position(|edit| roster.includes(&edit.stamp().clock))
+            .position(|edit| roster.includes(clock_of(edit)))
     }
 
     /// Takes the first edit that is ready off the shelf.
@@ -88,5 +89,16 @@ impl<E: Copy> Shelf<E> {
         ensures { result ≡ lowest_from None self.now.edits.items }
     {
         self.edits.iter().map(|edit| edit.stamp().id).min()
+    }
+}
+
+/// The clock of an edit, itself: `stamp` would copy it, and it is looked at for each edit that waits, whenever one is
+/// applied.
+fn clock_of<E: Copy>(edit: &Edit<E>) -> &Clock
+    ensures { result.now ≡ (stamp_of edit.now).clock }
+{
+    match edit {
+        Edit::Insertion { placement, .. } => &placement.stamp.clock,
+        Edit::Deletion(removal) => &removal.stamp.clock,
     }
 }

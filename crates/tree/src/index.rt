@@ -9,10 +9,11 @@ use edits::{Fault, Id};
 use std::alloc::Global;
 
 /// An identifier and the slot of its entry.
+// Four bytes for the slot, so that eight are moved for each place behind a new one.
 #[derive(Clone, Copy)]
 pub struct Place {
     pub id: Id,
-    pub slot: usize,
+    pub slot: u32,
 }
 
 /// The places of identifiers in ascending order, with memory for as many as asked for.
@@ -45,7 +46,7 @@ impl Index {
         ensures listed { MatchOption result (All (λ place. place.id ≢ id) self.now.places.items) (λ slot. Contains self.now.places.items (record { id = id; slot = slot })) }
     {
         match self.search(id) {
-            Ok(at) => Some(self.places[at].slot),
+            Ok(at) => Some(self.places[at].slot as usize),
             Err(_) => None,
         }
     }
@@ -53,14 +54,19 @@ impl Index {
     /// Puts a new identifier in its place.
     // That the limit stays relates two states, which no invariant of the type can say.
     pub(crate) fn add(&mut self, id: Id, slot: usize)
-        requires { vec_len self.old.places < self.old.most }
+        requires room { vec_len self.old.places < self.old.most }
+        requires small { slot < 65536 }
         ensures most { self.new.most ≡ self.old.most }
         ensures len { vec_len self.new.places ≤ vec_len self.old.places + 1 }
         ensures places { GainsUnlessNamed self.old.places.items self.new.places.items (record { id = id; slot = slot }) }
     {
         if let Err(at) = self.search(id) {
             // Never refused: there is memory for every slot.
-            self.places.insert(at, Place { id, slot }).unwrap();
+            let place = Place {
+                id,
+                slot: slot as u32,
+            };
+            self.places.insert(at, place).unwrap();
         }
     }
 

@@ -1,6 +1,7 @@
 //! The entries of a document in reading order: readings made, filled and asked.
-ghost use Rattle.std.specs.Prelude.{◌≡◌, ◌+◌, ◌<◌, ◌≤◌, [], ◌∷◌, ◌++◌, if◌then◌else◌, None, vec_len, MatchResult, slice_index_or, vec_capacity};
-ghost use Rattle.std.specs.Iterator.{UpTo};
+ghost use Rattle.std.specs.Prelude.{◌≡◌, ℕ, ◌+◌, ◌<◌, ◌≤◌, Bool, List, [], ◌∷◌, ◌++◌, map, if◌then◌else◌, None, vec_len, MatchResult, slice_index_or, vec_capacity};
+ghost use Rattle.std.specs.List.{count_by};
+ghost use Rattle.std.specs.Iterator.{Drains, UpTo};
 ghost use Rattle.edits.specs.declared.fault.Fault.TheVariants.{NoMemory};
 
 use edits::Fault;
@@ -80,6 +81,7 @@ impl Reading {
         requires room { entries ≤ self.old.most }
         requires can { I.can_next slots }
         requires few { UpTo (I.remaining slots) entries }
+        ensures listed { (xs : List (ℕ × Bool)) × Drains I.next_gives slots xs × (self.new.order.items ≡ map (λ x. x.0) xs) × (self.new.shown ≡ count_by (λ x. x.1) xs) }
         ensures most { self.new.most ≡ self.old.most }
         ensures len { vec_len self.new.order ≤ entries }
         ensures indexes { vec_len self.new.indexes ≡ entries }

@@ -20,4 +20,5 @@ pub struct Tree<E: Copy> {
     ghost within: { vec_len nodes ≤ slots },
     ghost indexed: { vec_len index.places ≤ vec_len nodes },
     ghost even: { index.most ≡ slots },
+    ghost few: { slots ≤ 65536 },
 }
