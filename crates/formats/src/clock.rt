@@ -5,7 +5,7 @@ ghost use Rattle.formats.specs.Fields.{pair_at, clock_at};
 ghost use Rattle.formats.specs.Readers.{MovesTo};
 
 use crate::reader::Reader;
-use edits::{Clock, Fault, Pair};
+use edits::{Clock, Fault, Id, Pair};
 
 /// How many pairs a clock lists at most.
 const MOST_PAIRS: u8 = 16;
@@ -17,8 +17,11 @@ impl Reader<'_> {
         ensures moved { OnOk result (MovesTo self.old self.new (self.old.at + 3)) }
     {
         let place = self.at;
-        let editor = self.byte()?;
-        let count = self.two()?;
+        // Laid out as an identifier is.
+        let Id {
+            editor,
+            number: count,
+        } = self.id()?;
         if editor <= last || count == 0 {
             return Err(Fault::Pairs(place));
         }

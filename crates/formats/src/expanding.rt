@@ -113,7 +113,7 @@ fn id_further(id: Id, n: usize) -> Result<Id, Fault>
 fn element_of<K: Kind>(elements: &[u8], i: usize) -> Result<&[u8], Fault>
     ensures { MatchResult result (λ b. b.now ≡ take K.Kind.WIDTH (drop (i * K.Kind.WIDTH) elements.now)) (λ f. (f ≡ OutsideLimits) × (length elements.now < i * K.Kind.WIDTH + K.Kind.WIDTH)) }
 {
-    // By the offset: `chunks_exact(..).nth(i)` would walk over the elements before it.
+    // By the offset: `chunks_exact(..).nth(i)` walks over the elements before it, as the library writes it.
     let start = i.checked_mul(K::WIDTH).ok_or(Fault::OutsideLimits)?;
     let rest = elements.get(start..).ok_or(Fault::OutsideLimits)?;
     rest.get(..K::WIDTH).ok_or(Fault::OutsideLimits)

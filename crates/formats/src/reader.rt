@@ -38,7 +38,7 @@ impl<'a> Reader<'a> {
     }
 
     /// The next byte.
-    // Not by `bytes(1)`: clocks are read byte by byte, and a slice made and cut for each costs a third more.
+    // Not by `bytes(1)`, which makes a slice and cuts it for one byte.
     pub(crate) fn byte(&mut self) -> Result<u8, Fault>
         ensures value { result ≡ byte_at self.old.input.now self.old.at }
         ensures moved { OnOk result (MovesTo self.old self.new (self.old.at + 1)) }

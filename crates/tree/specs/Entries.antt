@@ -21,6 +21,15 @@ abbrev pub names : {E : Type 0} → Id → Option (Entry E) → Bool
 names id None = false
 names id (Some entry) = same entry.id id
 
+-- whether an entry is shown
+abbrev pub shows : {E : Type 0} → Option (Node E) → Bool
+shows None = false
+shows (Some node) = node.entry.shown
+
+-- whether the entry in a slot is shown; no other slot shows one
+abbrev pub shown_at : {E : Type 0} → List (Node E) → ℕ → Bool
+shown_at nodes slot = shows (slice_get nodes slot)
+
 -- a new entry
 abbrev pub shown_entry : {E : Type 0} → Id → E → Entry E
 shown_entry id element = record { id = id; element = element; shown = true }

@@ -1,9 +1,11 @@
 //! The entries of a document in reading order: readings made, filled and asked.
-ghost use Rattle.std.specs.Prelude.{◌≡◌, ℕ, ◌+◌, ◌<◌, ◌≤◌, Bool, List, [], ◌∷◌, ◌++◌, map, if◌then◌else◌, None, vec_len, MatchResult, slice_index_or, vec_capacity};
+ghost use Rattle.std.specs.Prelude.{◌≡◌, ℕ, ◌+◌, ◌<◌, ◌≤◌, List, [], ◌∷◌, ◌++◌, length, if◌then◌else◌, None, vec_len, MatchResult, slice_index_or, vec_capacity};
 ghost use Rattle.std.specs.List.{count_by};
 ghost use Rattle.std.specs.Iterator.{Drains, UpTo};
+ghost use Rattle.tree.specs.Entries.{shown_at};
 ghost use Rattle.edits.specs.declared.fault.Fault.TheVariants.{NoMemory};
 
+use crate::node::Node;
 use edits::Fault;
 use std::alloc::Global;
 
@@ -72,28 +74,28 @@ impl Reading {
     }
 
     /// Lists slots in place of what was read before, each with whether its entry is shown.
-    // A slot and a `bool`, no `Option`: it says whether an entry is shown, and not whether there is one.
-    pub(crate) fn fill<I: Iterator<Item = (usize, bool)> + Drop>(
+    pub(crate) fn fill<E: Copy, I: Iterator<Item = usize> + Drop>(
         &mut self,
-        entries: usize,
+        nodes: &[Node<E>],
         slots: I,
     )
-        requires room { entries ≤ self.old.most }
+        requires room { length nodes.now ≤ self.old.most }
         requires can { I.can_next slots }
-        requires few { UpTo (I.remaining slots) entries }
-        ensures listed { (xs : List (ℕ × Bool)) × Drains I.next_gives slots xs × (self.new.order.items ≡ map (λ x. x.0) xs) × (self.new.shown ≡ count_by (λ x. x.1) xs) }
+        requires few { UpTo (I.remaining slots) (length nodes.now) }
+        ensures listed { (xs : List ℕ) × Drains I.next_gives slots xs × (self.new.order.items ≡ xs) × (self.new.shown ≡ count_by (shown_at nodes.now) xs) }
         ensures most { self.new.most ≡ self.old.most }
-        ensures len { vec_len self.new.order ≤ entries }
-        ensures indexes { vec_len self.new.indexes ≡ entries }
+        ensures len { vec_len self.new.order ≤ length nodes.now }
+        ensures indexes { vec_len self.new.indexes ≡ length nodes.now }
     {
-        self.restart(entries);
-        for (slot, shown) in slots {
+        self.restart(nodes.len());
+        for slot in slots {
+            let shown = is_shown(nodes, slot);
             self.add(slot, shown);
         }
     }
 
     /// One slot more, behind those that were added. The index counts shown entries only.
-    // A slot and a `bool`, as in `fill`.
+    // A slot and a `bool`, no `Option`: it says whether an entry is shown, and not whether there is one.
     fn add(&mut self, at: usize, shown: bool)
         requires room { vec_len self.old.order < self.old.most }
         requires few { self.old.shown ≤ vec_len self.old.order }
@@ -111,5 +113,15 @@ impl Reading {
             }
             self.shown += 1;
         }
+    }
+}
+
+/// Whether the entry in a slot is shown; no other slot shows one.
+fn is_shown<E: Copy>(nodes: &[Node<E>], slot: usize) -> bool
+    ensures { result ≡ shown_at nodes.now slot }
+{
+    match nodes.get(slot) {
+        Some(node) => node.entry.shown,
+        None => false,
     }
 }

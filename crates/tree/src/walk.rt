@@ -52,10 +52,8 @@ impl<E: Copy> Tree<E> {
         }
         let first = self.first.map(|slot| self.leftmost(slot));
         reading.fill(
-            entries,
-            successors(first, |at| self.after(*at))
-                .take(entries)
-                .filter_map(|slot| Some((slot, self.entry(slot)?.shown))),
+            &self.nodes,
+            successors(first, |at| self.after(*at)).take(entries),
         );
         Ok(())
     }
