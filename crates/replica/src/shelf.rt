@@ -88,7 +88,10 @@ impl<E: Copy> Shelf<E> {
     pub(crate) fn lowest(&self) -> Option<Id>
         ensures { result ≡ lowest_from None self.now.edits.items }
     {
-        self.edits.iter().map(|edit| edit.stamp().id).min()
+        self.edits
+            .iter()
+            .map(|edit| edit.stamp().id)
+            .reduce(Id::min)
     }
 }
 
