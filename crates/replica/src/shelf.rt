@@ -92,6 +92,7 @@ impl<E: Copy> Shelf<E> {
     pub(crate) fn lowest(&self) -> Option<Id>
         ensures { result ≡ lowest_from None self.now.edits.items }
     {
+        // Not by `min()`: the proof is of any function that answers the lower of two, as the definition takes it.
         self.edits
             .iter()
             .map(|edit| edit.stamp().id)
